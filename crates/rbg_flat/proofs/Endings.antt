@@ -5,8 +5,8 @@ use Rattle.std.proofs.lemmas.List.Quantifiers.{all_pairs_push}
 use Rattle.rbg_rules.specs.Meaning.{IsGame, IsModifierAt, positions_of, AbstractGame, AbstractState, IsStateOf, Start}
 use Rattle.rbg_shifts.proofs.Common.{AreTargetsFrom, IsLeap, EndsAcross}
 use Rattle.rbg_shifts.specs.declared.target.Target.{Target}
-use Rattle.rbg_flat.proofs.Common.{IsCandidate, at_vertex, Holds, IsMet, first, then, EndsMet, IsDeadEnd, AreDead, IsDead, IsDeadTarget, IsFilledTarget, IsAmong, IsToTry, IsInWord}
-use Rattle.rbg_flat.proofs.ChainLemmas.{candidate_of, met_of, met_end_of, end_of}
+use Rattle.rbg_flat.proofs.Common.{leaping, IsCandidate, at_vertex, Holds, IsMet, first, then, EndsMet, IsDeadEnd, AreDead, IsDead, IsDeadTarget, IsFilledTarget, IsAmong, IsToTry, IsInWord}
+use Rattle.rbg_flat.proofs.ChainLemmas.{end_of, met_end_of, met_of, part_of}
 use Rattle.rbg_flat.proofs.Leadings.{one_more, among_apart, among_first, among_second, none_among}
 use Rattle.rbg_flat.proofs.Leaping.{among_leap, leap_among}
 use Rattle.rbg_flat.proofs.ToTry.{holds_to_try, pattern_to_try}
@@ -158,19 +158,19 @@ module _
     not_held : (u p : ℕ) → IsLeap game f v p u → ¬ Holds game here u p
     not_held u p leap holds =
         let among = leap_among game lawful.numbered f v targets are u p leap in
-        (dead.dead u p among).closed (try_there u p (holds_to_try game lawful here fits_here f u p (first leap) holds))
+        (dead.dead u p among).closed (try_there u p (holds_to_try leaping game lawful here fits_here f u p (first leap) holds))
 
-    leap_of : (u p : ℕ) → IsMet game here f u p → IsLeap game f v p u
+    leap_of : (u p : ℕ) → IsMet leaping game here f u p → IsLeap game f v p u
     leap_of u p (first leap) = leap
     leap_of u p (then {v = w} {q = q} met holds leap) = absurd (not_held w q (leap_of w q met) holds)
 
     candidate_among : (u p : ℕ) → IsCandidate game here f u p → IsAmong targets u p
-    candidate_among u p candidate = leap_among game lawful.numbered f v targets are u p (leap_of u p (met_of game lawful.numbered here f u p candidate))
+    candidate_among u p candidate = leap_among game lawful.numbered f v targets are u p (leap_of u p (met_of leaping game lawful.numbered here f u p candidate))
 
     among_candidate : (u p : ℕ) → IsAmong targets u p → IsCandidate game here f u p
-    among_candidate u p among = candidate_of game lawful.numbered here f u p (first (among_leap game lawful.numbered f v targets are u p among))
+    among_candidate u p among = part_of leaping game lawful.numbered here f u p (first (among_leap game lawful.numbered f v targets are u p among))
 
-    ends_across : EndsMet game here f → EndsAcross game f v
+    ends_across : EndsMet leaping game here f → EndsAcross game f v
     ends_across (inl end) = end
     ends_across (inr beyond) = absurd (not_held beyond.vertex beyond.position (leap_of beyond.vertex beyond.position beyond.met) beyond.holds)
 
@@ -193,7 +193,7 @@ module _
       no_modifier = λ u p candidate. (dead.dead u p (candidate_among u p candidate)).quiet;
       no_pattern = λ u p candidate pattern. (dead.dead u p (candidate_among u p candidate)).closed (pattern_to_try game lawful.numbered s p pattern u);
       may_end = (
-        λ is. end_of game lawful.numbered here f (inl (told.0 is)),
-        λ end. told.1 (ends_across (met_end_of game lawful.numbered here f end)),
+        λ is. end_of leaping game lawful.numbered here f (inl (told.0 is)),
+        λ end. told.1 (ends_across (met_end_of leaping game lawful.numbered here f end)),
       );
     }

@@ -3,9 +3,9 @@ use Rattle.rbg_base.proofs.Common.{◌≡◌, ℕ, ◌+◌, ◌*◌, ◌/◌, �
 use Rattle.rbg_rules.specs.Meaning.{AbstractAction, shift, on, off, assignment, comparison, switch, positive, negative, IsGame, HasAction, IsModifierAt, IsNumbered, is_modifier, positions_of, AbstractGame, AbstractState, Acts, Applies, Start}
 use Rattle.rbg_rules.proofs.PositionLemmas.{one_action_at}
 use Rattle.rbg_state.proofs.Trying.{same_value}
-use Rattle.rbg_flat.proofs.Common.{IsFound, AreFound, HasCandidates, most_candidates, IsBegun, Lists, at_position, Gathers, Keeps, IsGone, IsKept, Gathered, Counted, CountsMet, AreOn, SetsOfVertices, IsMarked, IsOpen, ForgetsPlace, IsMetAt}
+use Rattle.rbg_flat.proofs.Common.{Way, IsFound, AreFound, HasPairs, most_candidates, IsBegun, Lists, at_position, Gathers, Keeps, IsGone, IsKept, Gathered, Counted, CountsMet, AreOn, SetsOfVertices, IsMarked, IsOpen, ForgetsPlace, IsMetAt}
 use Rattle.rbg_flat.proofs.Countings.{InRow, row_listed, row_apart, row_cases, row_earlier, row_here, counted_more, counted_all, counted_both, few_on}
-use Rattle.rbg_flat.proofs.ChainLemmas.{candidate_of, met_of}
+use Rattle.rbg_flat.proofs.ChainLemmas.{candidate_part, met_of, modifier_plain, part_candidate, part_of}
 use Rattle.rbg_flat.proofs.Lists.{lists_none, lists_same, lists_join}
 use Rattle.rbg_flat.proofs.Steps.{all_marked}
 
@@ -38,13 +38,13 @@ counted_of game s first now found count gathered = record { under = gathered.und
 pub rest_counted : (game : AbstractGame) (s : AbstractState) (first now : SetsOfVertices) (found : List (ℕ × ℕ)) (count rest : ℕ) → Gathered game s first now found count → CountsMet (IsMarked now) rest → CountsMet (IsMarked first) (count + rest)
 rest_counted game s first now found count rest gathered met = counted_both first now count rest (counted_of game s first now found count gathered) met
 
--- Where nothing is open, what was met are the candidates.
-pub all_candidates : (game : AbstractGame) → IsGame game → (s : AbstractState) (first : SetsOfVertices) (f : Start) (ends : Bool) → IsBegun game s f (IsMarked first) (IsOpen first) ends → ((v p : ℕ) → ¬ IsOpen first v p) → (many : ℕ) → CountsMet (IsMarked first) many → HasCandidates game s f many
-all_candidates game lawful s first f ends is done many met = record {
+-- Where nothing is open, what was met is all that the flat part has.
+pub all_pairs : (way : Way) (game : AbstractGame) → IsGame game → (s : AbstractState) (first : SetsOfVertices) (f : Start) (ends : Bool) → IsBegun way game s f (IsMarked first) (IsOpen first) ends → ((v p : ℕ) → ¬ IsOpen first v p) → (many : ℕ) → CountsMet (IsMarked first) many → HasPairs way game s f many
+all_pairs way game lawful s first f ends is done many met = record {
   pairs = met.pairs;
   all = λ v p. (
-    λ there. candidate_of game lawful.numbered s f v p (is.sound v p ((met.all (v, p)).0 there)),
-    λ here. (met.all (v, p)).1 (all_marked game s f (IsMarked first) (IsOpen first) ends is done v p (met_of game lawful.numbered s f v p here)),
+    λ there. part_of way game lawful.numbered s f v p (is.sound v p ((met.all (v, p)).0 there)),
+    λ here. (met.all (v, p)).1 (all_marked way game s f (IsMarked first) (IsOpen first) ends is done v p (met_of way game lawful.numbered s f v p here)),
   );
   different = met.different;
   count = met.count;
@@ -146,8 +146,8 @@ module _ (game : AbstractGame) (lawful : IsGame game) (s : AbstractState) (first
 
   -- Where all is forgotten, what was met was gathered.
   module _
-      (f : Start) (ends : Bool) (now : SetsOfVertices) (found : List (ℕ × ℕ)) (count : ℕ)
-      (is : IsBegun game s f (IsMarked first) (IsOpen first) ends)
+      (way : Way) (f : Start) (ends : Bool) (now : SetsOfVertices) (found : List (ℕ × ℕ)) (count : ℕ)
+      (is : IsBegun way game s f (IsMarked first) (IsOpen first) ends)
       (done : (v p : ℕ) → ¬ IsOpen first v p)
       (none : (v p : ℕ) → ¬ IsMarked now v p)
       (gathered : Gathered game s first now found count)
@@ -161,7 +161,7 @@ module _ (game : AbstractGame) (lawful : IsGame game) (s : AbstractState) (first
           found_of : (v p : ℕ) → IsKept game s first now (v, p) → IsFound game s f v p
           found_of v p kept = record {
             later = (kept.keeps.valid v).0;
-            candidate = candidate_of game lawful.numbered s f v p (is.sound v p kept.gone.marked);
+            candidate = part_candidate way game s f v p (modifier_plain game lawful.numbered p kept.keeps.modifies) (part_of way game lawful.numbered s f v p (is.sound v p kept.gone.marked));
             modifies = kept.keeps.modifies;
             applies = (kept.keeps.valid v).1;
           }
@@ -169,14 +169,14 @@ module _ (game : AbstractGame) (lawful : IsGame game) (s : AbstractState) (first
           kept_of : (v p : ℕ) → IsFound game s f v p → IsKept game s first now (v, p)
           kept_of v p here = record {
             gone = record {
-              marked = all_marked game s f (IsMarked first) (IsOpen first) ends is done v p (met_of game lawful.numbered s f v p here.candidate);
+              marked = all_marked way game s f (IsMarked first) (IsOpen first) ends is done v p (met_of way game lawful.numbered s f v p (candidate_part way game s f v p here.candidate));
               forgotten = none v p;
             };
             keeps = record { modifies = here.modifies; valid = λ w. everywhere game lawful.numbered s p v w here.later here.modifies here.applies };
           }
 
-      pub has_candidates : HasCandidates game s f count
-      has_candidates = all_candidates game lawful s first f ends is done count (counted_all first now count none (counted_of game s first now found count gathered))
+      pub has_pairs : HasPairs way game s f count
+      has_pairs = all_pairs way game lawful s first f ends is done count (counted_all first now count none (counted_of game s first now found count gathered))
 
   pub few_gathered : (now : SetsOfVertices) (found : List (ℕ × ℕ)) (count : ℕ) → Gathered game s first now found count → count ≤ most_candidates game
   few_gathered now found count gathered =

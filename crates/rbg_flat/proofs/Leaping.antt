@@ -1,4 +1,4 @@
--- What targets tell of leaps.
+-- What targets tell of leaps, and that all that one is led to is on the board.
 use Rattle.rbg_base.proofs.Common.{◌≡◌, ℕ, ◌<◌, ◌≤◌, ◌⊎◌, inl, inr, List, [], ◌∷◌, ◌++◌, length, get_or, sym, subst, ◌∙◌, Contains, All, Contains-get_or}
 use Rattle.rbg_rules.specs.Meaning.{IsNumbered, positions_of, AbstractGame, Start, after, Follows, IsGame}
 use Rattle.rbg_rules.proofs.LocalityLemmas.{locality_law}
@@ -6,7 +6,7 @@ use Rattle.rbg_shifts.specs.declared.target.Target.{Target}
 use Rattle.rbg_shifts.proofs.Common.{AreTargetsFrom, IsLeap, Leads, stay, go, row_words}
 use Rattle.rbg_board.specs.Graph.{IsClosed}
 use Rattle.rbg_shifts.proofs.ShiftLemmas.{follower_stands, action_within}
-use Rattle.rbg_flat.proofs.Common.{SetsOfVertices, HasBitAt, IsMarked, IsOpen, Meets, ClosesWord, IsAmong, IsTargetFor, IsPositionIn, AreOn, AreSizedFor}
+use Rattle.rbg_flat.proofs.Common.{Way, leaping, stepping, IsFirstLead, IsLead, Moves, stays, goes, SetsOfVertices, HasBitAt, IsMarked, IsOpen, Meets, ClosesWord, IsAmong, IsTargetFor, IsPositionIn, AreOn, AreSizedFor}
 
 -- What follows stands in the rules.
 pub within : (game : AbstractGame) → IsNumbered game.rules → (f : Start) (m : List ℕ) (p : ℕ) → Follows game.rules f (m ++ p ∷ []) → (0 < p) × (p ≤ length (positions_of game.rules))
@@ -44,25 +44,52 @@ pub leads_on_board : (game : AbstractGame) → IsClosed game.board → (v : ℕ)
 leads_on_board game closed v m u here stay = here
 leads_on_board game closed v m u here (go {w = w} {m = rest} d stands edge more) = leads_on_board game closed w rest u (closed.to_vertex v d w edge) more
 
--- What leaps lead to is on the board, at positions of the game.
-pub still_on : (game : AbstractGame) → IsGame game → (f : Start) (vertex : ℕ) (Opens : (v p : ℕ) → Type 0) (old new : SetsOfVertices) → vertex < length game.board.first → Meets old new (λ v p. IsLeap game f vertex p v) Opens → AreOn game old → AreOn game new
-still_on game lawful f vertex Opens old new here meets on = record {
+-- What one is led to is on the board, at positions of the game.
+pub first_on_board : (way : Way) (game : AbstractGame) → IsGame game → (f : Start) (v p u : ℕ) → v < length game.board.first → IsFirstLead way game f v p u → u < length game.board.first
+first_on_board leaping game lawful f v p u here leap = leads_on_board game lawful.board v leap.shifts u here leap.leads
+first_on_board stepping game lawful f v p u here step = subst (λ (k : ℕ). k < length game.board.first) (sym step.0) here
+
+pub first_within : (way : Way) (game : AbstractGame) → IsGame game → (f : Start) (v p u : ℕ) → IsFirstLead way game f v p u → (0 < p) × (p ≤ length (positions_of game.rules))
+first_within leaping game lawful f v p u leap = within game lawful.numbered f leap.shifts p leap.follows
+first_within stepping game lawful f v p u step = within game lawful.numbered f [] p step.1
+
+moved_on_board : (game : AbstractGame) → IsClosed game.board → (q v u : ℕ) → v < length game.board.first → Moves game q v u → u < length game.board.first
+moved_on_board game closed q v u here (stays plain) = here
+moved_on_board game closed q v u here (goes d stands edge) = closed.to_vertex v d u edge
+
+pub lead_on_board : (way : Way) (game : AbstractGame) → IsGame game → (q v p u : ℕ) → v < length game.board.first → IsLead way game q v p u → u < length game.board.first
+lead_on_board leaping game lawful q v p u here leap = leads_on_board game lawful.board v leap.shifts u here leap.leads
+lead_on_board stepping game lawful q v p u here step = moved_on_board game lawful.board q v u here step.moves
+
+pub lead_within : (way : Way) (game : AbstractGame) → IsGame game → (q v p u : ℕ) → IsLead way game q v p u → (0 < p) × (p ≤ length (positions_of game.rules))
+lead_within leaping game lawful q v p u leap = within game lawful.numbered (after q) leap.shifts p leap.follows
+lead_within stepping game lawful q v p u step = within game lawful.numbered (after q) [] p step.follows
+
+-- Where what was met is on the board, so is all that is marked.
+pub met_on : (game : AbstractGame) (In Opens : (v p : ℕ) → Type 0) (old new : SetsOfVertices) → ((v p : ℕ) → In v p → v < length game.board.first) → ((v p : ℕ) → In v p → (0 < p) × (p ≤ length (positions_of game.rules))) → Meets old new In Opens → AreOn game old → AreOn game new
+met_on game In Opens old new vertices positions meets on = record {
   vertex = λ v p has. by_vertex v p (meets.only v p has);
   from_one = λ v p has. by_first v p (meets.only v p has);
   there = λ v p has. by_last v p (meets.only v p has);
 }
   where
-    by_vertex : (v p : ℕ) → IsMarked old v p ⊎ (IsLeap game f vertex p v × (Opens v p → IsOpen new v p)) → v < length game.board.first
+    by_vertex : (v p : ℕ) → IsMarked old v p ⊎ (In v p × (Opens v p → IsOpen new v p)) → v < length game.board.first
     by_vertex v p (inl was) = on.vertex v p was
-    by_vertex v p (inr (leap, _)) = leads_on_board game lawful.board vertex leap.shifts v here leap.leads
+    by_vertex v p (inr (is, _)) = vertices v p is
 
-    by_first : (v p : ℕ) → IsMarked old v p ⊎ (IsLeap game f vertex p v × (Opens v p → IsOpen new v p)) → 0 < p
+    by_first : (v p : ℕ) → IsMarked old v p ⊎ (In v p × (Opens v p → IsOpen new v p)) → 0 < p
     by_first v p (inl was) = on.from_one v p was
-    by_first v p (inr (leap, _)) = (within game lawful.numbered f leap.shifts p leap.follows).0
+    by_first v p (inr (is, _)) = (positions v p is).0
 
-    by_last : (v p : ℕ) → IsMarked old v p ⊎ (IsLeap game f vertex p v × (Opens v p → IsOpen new v p)) → p ≤ length (positions_of game.rules)
+    by_last : (v p : ℕ) → IsMarked old v p ⊎ (In v p × (Opens v p → IsOpen new v p)) → p ≤ length (positions_of game.rules)
     by_last v p (inl was) = on.there v p was
-    by_last v p (inr (leap, _)) = (within game lawful.numbered f leap.shifts p leap.follows).1
+    by_last v p (inr (is, _)) = (positions v p is).1
+
+pub still_on : (way : Way) (game : AbstractGame) → IsGame game → (f : Start) (vertex : ℕ) (Opens : (v p : ℕ) → Type 0) (old new : SetsOfVertices) → vertex < length game.board.first → Meets old new (λ v p. IsFirstLead way game f vertex p v) Opens → AreOn game old → AreOn game new
+still_on way game lawful f vertex Opens old new here meets on =
+    met_on game (λ v p. IsFirstLead way game f vertex p v) Opens old new
+    (λ v p is. first_on_board way game lawful f vertex p v here is)
+    (λ v p is. first_within way game lawful f vertex p v is) meets on
 
 -- Nothing is marked.
 pub none_on : (game : AbstractGame) (sets : SetsOfVertices) → ((v p : ℕ) → ¬ IsMarked sets v p) → AreOn game sets

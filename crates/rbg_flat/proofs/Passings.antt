@@ -5,7 +5,7 @@ use Rattle.rbg_base.specs.declared.relation.Relation.{Relation}
 use Rattle.rbg_state.proofs.Trying.{same_value}
 use Rattle.rbg_rules.proofs.MoveLemmas.{applied_acts}
 use Rattle.rbg_rules.proofs.PositionLemmas.{one_action_at}
-use Rattle.rbg_flat.specs.internal.Passing.{Passes, IsOneOf}
+use Rattle.rbg_flat.proofs.Common.{Holds, IsOneOf}
 use Rattle.rbg_shifts.proofs.Bits.{either_bit, first_bit, second_bit}
 
 -- One bit less is left: of its vertex it is told now.
@@ -90,14 +90,14 @@ module _ (game : AbstractGame) (numbered : IsNumbered game.rules) (s : AbstractS
   quiet : ¬ IsModifierAt game.rules q
   quiet m = true_not_false (sym m.modifies ∙ ap is_modifier (one_action_at game.rules numbered q m.action (on wanted) m.stands stands))
 
-  pub on_passes : (v : ℕ) → IsOneOf wanted s.pieces v → Passes game s v q
+  pub on_passes : (v : ℕ) → IsOneOf wanted s.pieces v → Holds game s v q
   on_passes v one = record {
     to = v;
     quiet = quiet;
     applies = record { action = on wanted; stands = stands; acts = (subst (λ (x : ℕ). Contains wanted x) (sym (get_or_from_slice_get s.pieces v one.piece 0 one.stands)) one.listed, Rattle.std.proofs.Common.refl) };
   }
 
-  pub passes_on : (v : ℕ) → v < length s.pieces → Passes game s v q → IsOneOf wanted s.pieces v
+  pub passes_on : (v : ℕ) → v < length s.pieces → Holds game s v q → IsOneOf wanted s.pieces v
   passes_on v below passes =
       let acts = applied_acts game numbered q (on wanted) stands passes.applies in
       record { piece = get_or s.pieces v 0; listed = acts.0; stands = slice_get-get_or s.pieces v 0 below }
@@ -133,10 +133,10 @@ module _
     )
 
 -- A comparison that passes at one vertex passes at each.
-pub compares_everywhere : (game : AbstractGame) → IsNumbered game.rules → (s : AbstractState) (p : ℕ) (e : AbstractArithmetic) (r : Relation) (f : AbstractArithmetic) → HasAction game.rules p (comparison e r f) → (v w : ℕ) → Passes game s v p → Passes game s w p
+pub compares_everywhere : (game : AbstractGame) → IsNumbered game.rules → (s : AbstractState) (p : ℕ) (e : AbstractArithmetic) (r : Relation) (f : AbstractArithmetic) → HasAction game.rules p (comparison e r f) → (v w : ℕ) → Holds game s v p → Holds game s w p
 compares_everywhere game numbered s p e r f stands v w passes = by_acts (applied_acts game numbered p (comparison e r f) stands passes.applies)
   where
-    by_acts : Acts game (comparison e r f) (record s { vertex = v }) (record s { vertex = passes.to }) → Passes game s w p
+    by_acts : Acts game (comparison e r f) (record s { vertex = v }) (record s { vertex = passes.to }) → Holds game s w p
     by_acts (x, y, left, right, relates, same) = record {
       to = w;
       quiet = passes.quiet;

@@ -1,11 +1,11 @@
 -- Where switches stand, and shifts.
-use Rattle.std.proofs.Common.{◌≡◌, ℕ, Bool, true, false, refl, sym, ap, ◌∙◌, IsTrue, ◌↔◌}
+use Rattle.std.proofs.Common.{◌≡◌, ℕ, Bool, true, false, refl, sym, ap, ◌∙◌, IfNone, IfSome, IsTrue, ◌↔◌}
 use Rattle.rbg_rules.specs.Meaning.{AbstractAction, shift, off, switch, positive, negative, Expression, HasAction, IsNumbered, IsSwitchAt, IsActionAt}
 use Rattle.rbg_rules.specs.declared.rule.Action.{Action}
 use Rattle.rbg_rules.specs.declared.rule.Action.TheVariants.{Shift, On, Off, Assign, Compare, Switch, Positive, Negative}
 use Rattle.rbg_rules.proofs.PositionLemmas.{one_action_at}
 use Rattle.rbg_shifts.specs.Leaps.{IsShiftAt}
-use Rattle.rbg_flat.specs.internal.Shown.{shows_shift, shows_switch}
+use Rattle.rbg_flat.specs.internal.Shown.{direction_in, shows_shift, shows_switch}
 
 abbrev shifts : AbstractAction → Bool
 shifts (shift d) = true
@@ -53,3 +53,30 @@ module _ (rules : Expression) (numbered : IsNumbered rules) (p : ℕ) where
   stands_switch (Switch n) stands = ((λ _. record { player = n; stands = stands }), (λ _. refl))
   stands_switch Positive (x, stands) = no_switch (positive x) stands refl
   stands_switch Negative (x, stands) = no_switch (negative x) stands refl
+
+-- The direction that an action shows is that of a shift.
+pub direction_stands : (rules : Expression) (p : ℕ) (a : Action) → IsActionAt rules p a → IfSome (direction_in a) (λ d. HasAction rules p (shift d))
+direction_stands rules p (Shift d) stands = stands
+direction_stands rules p (On pieces) stands = tt
+direction_stands rules p (Off x) stands = tt
+direction_stands rules p (Assign v e) stands = tt
+direction_stands rules p (Compare e r f) stands = tt
+direction_stands rules p (Switch n) stands = tt
+direction_stands rules p Positive stands = tt
+direction_stands rules p Negative stands = tt
+
+pub no_direction : (rules : Expression) → IsNumbered rules → (p : ℕ) (a : Action) → IsActionAt rules p a → IfNone (direction_in a) (¬ IsShiftAt rules p)
+no_direction rules numbered p a stands = by_action a (stands_shift rules numbered p a stands)
+  where
+    false_not_true : false ≡ true → ⊥
+    false_not_true e = cc
+
+    by_action : (a : Action) → IsTrue (shows_shift a) ↔ IsShiftAt rules p → IfNone (direction_in a) (¬ IsShiftAt rules p)
+    by_action (Shift d) told = tt
+    by_action (On pieces) told = λ is. false_not_true (told.1 is)
+    by_action (Off x) told = λ is. false_not_true (told.1 is)
+    by_action (Assign v e) told = λ is. false_not_true (told.1 is)
+    by_action (Compare e r f) told = λ is. false_not_true (told.1 is)
+    by_action (Switch n) told = λ is. false_not_true (told.1 is)
+    by_action Positive told = λ is. false_not_true (told.1 is)
+    by_action Negative told = λ is. false_not_true (told.1 is)

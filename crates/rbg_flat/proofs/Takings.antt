@@ -1,16 +1,14 @@
 -- How a flat part that is being found goes on by the sets that hold it.
 use Rattle.rbg_base.proofs.Common.{◌≡◌, ℕ, ◌+◌, ◌*◌, ◌/◌, ◌%◌, ◌<◌, ◌≤◌, ◌⊎◌, inl, inr, List, Bool, true, false, get_or, refl, sym, subst, arith, bit_at, IsTrue, ◌↔◌, bit_at-zero, ℕ_discrete, cases_lt}
-use Rattle.rbg_flat.proofs.Common.{Passes, IsToTry, Holds, IsMet, first, then, IsBegun, LearnsEnd, SetsOfVertices, IsMarked, IsOpen, IsInWord, Meets, ClosesWord, HasBitAt, weight}
-use Rattle.rbg_rules.specs.Meaning.{shift, on, off, assignment, comparison, switch, positive, negative, Expression, IsStart, IsActionAt, arithmetic_of, IsGame, IsModifierAt, IsNumbered, AbstractGame, AbstractState, IsStateOf, Start, after, Applies}
+use Rattle.rbg_flat.proofs.Common.{Way, IsFirstLead, EndsFirst, IsToTry, Holds, first, IsBegun, LearnsEnd, SetsOfVertices, IsMarked, IsOpen, IsInWord, Meets, ClosesWord, HasBitAt, weight}
+use Rattle.rbg_rules.specs.Meaning.{shift, on, off, assignment, comparison, switch, positive, negative, Expression, IsStart, IsActionAt, arithmetic_of, IsGame, AbstractGame, AbstractState, IsStateOf, Start, after}
 use Rattle.rbg_rules.specs.declared.rule.Action.{Action}
 use Rattle.rbg_rules.specs.declared.rule.Action.TheVariants.{Shift, On, Off, Assign, Compare, Switch, Positive, Negative}
-use Rattle.rbg_shifts.specs.Leaps.{IsShiftAt, IsLeap, EndsAcross}
-use Rattle.rbg_flat.proofs.ChainLemmas.{QuietStep, shifts, holds, quiet_step}
 use Rattle.rbg_flat.proofs.ToTry.{holds_to_try}
 
--- Where nothing was marked, the first leaps begin.
-pub begins : (game : AbstractGame) → IsGame game → (s : AbstractState) → IsStateOf game s → (f : Start) (old new : SetsOfVertices) (ends : Bool) → ((v p : ℕ) → ¬ IsMarked old v p) → ((v p : ℕ) → ¬ IsOpen old v p) → Meets old new (λ v p. IsLeap game f s.vertex p v) (IsToTry game s) → LearnsEnd false ends (EndsAcross game f s.vertex) → IsBegun game s f (IsMarked new) (IsOpen new) ends
-begins game lawful s fits f old new ends none nothing_open meets learns = record {
+-- Where nothing was marked, what one is led to first begins.
+pub begins : (way : Way) (game : AbstractGame) → IsGame game → (s : AbstractState) → IsStateOf game s → (f : Start) (old new : SetsOfVertices) (ends : Bool) → ((v p : ℕ) → ¬ IsMarked old v p) → ((v p : ℕ) → ¬ IsOpen old v p) → Meets old new (λ v p. IsFirstLead way game f s.vertex p v) (IsToTry game s) → LearnsEnd false ends (EndsFirst way game f s.vertex) → IsBegun way game s f (IsMarked new) (IsOpen new) ends
+begins way game lawful s fits f old new ends none nothing_open meets learns = record {
   sound = λ v p has. first (leap_of v p (meets.only v p has)).0;
   begun = λ v p leap. meets.met v p leap;
   closed = λ v q u p has closed is_so leap. absurd (closed (opened v q has is_so));
@@ -20,23 +18,23 @@ begins game lawful s fits f old new ends none nothing_open meets learns = record
   closed_end = λ v q has closed is_so end. absurd (closed (opened v q has is_so));
 }
   where
-    leap_of : (v p : ℕ) → IsMarked old v p ⊎ (IsLeap game f s.vertex p v × (IsToTry game s v p → IsOpen new v p)) → IsLeap game f s.vertex p v × (IsToTry game s v p → IsOpen new v p)
+    leap_of : (v p : ℕ) → IsMarked old v p ⊎ (IsFirstLead way game f s.vertex p v × (IsToTry game s v p → IsOpen new v p)) → IsFirstLead way game f s.vertex p v × (IsToTry game s v p → IsOpen new v p)
     leap_of v p (inl was) = absurd (none v p was)
     leap_of v p (inr is) = is
 
     opened : (v p : ℕ) → IsMarked new v p → Holds game s v p → IsOpen new v p
     opened v p has is_so =
         let leap = leap_of v p (meets.only v p has) in
-        leap.1 (holds_to_try game lawful s fits f v p (first leap.0) is_so)
+        leap.1 (holds_to_try way game lawful s fits f v p (first leap.0) is_so)
 
-    open_of : (v p : ℕ) → IsOpen old v p ⊎ (IsLeap game f s.vertex p v × IsToTry game s v p × (¬ IsMarked old v p)) → IsToTry game s v p
+    open_of : (v p : ℕ) → IsOpen old v p ⊎ (IsFirstLead way game f s.vertex p v × IsToTry game s v p × (¬ IsMarked old v p)) → IsToTry game s v p
     open_of v p (inl was) = absurd (nothing_open v p was)
     open_of v p (inr (_, opens, _)) = opens
 
     false_not_true : false ≡ true → ⊥
     false_not_true e = cc
 
-    end_of : (false ≡ true) ⊎ EndsAcross game f s.vertex → EndsAcross game f s.vertex
+    end_of : (false ≡ true) ⊎ EndsFirst way game f s.vertex → EndsFirst way game f s.vertex
     end_of (inl no_end) = absurd (false_not_true no_end)
     end_of (inr end) = end
 
@@ -64,19 +62,6 @@ goes_on rules p (Switch n) stands = (switch n, stands)
 goes_on rules p Positive (x, stands) = (positive x, stands)
 goes_on rules p Negative (x, stands) = (negative x, stands)
 
--- What is met is no shift.
-pub met_plain : (game : AbstractGame) (s : AbstractState) (f : Start) (v p : ℕ) → IsMet game s f v p → ¬ IsShiftAt game.rules p
-met_plain game s f v p (first leap) = leap.plain
-met_plain game s f v p (then here is leap) = leap.plain
-
--- What is met holds where it is tried and leads on.
-pub tried_holds : (game : AbstractGame) → IsNumbered game.rules → (s : AbstractState) (f : Start) (v p u : ℕ) → IsMet game s f v p → ¬ IsModifierAt game.rules p → Applies game p (record s { vertex = v }) (record s { vertex = u }) → Holds game s v p
-tried_holds game numbered s f v p u here quiet applies = by_step (quiet_step game numbered p (record s { vertex = v }) (record s { vertex = u }) quiet applies)
-  where
-    by_step : QuietStep game p (record s { vertex = v }) (record s { vertex = u }) → Holds game s v p
-    by_step (shifts d w stands leads is) = absurd (met_plain game s f v p here (record { direction = d; stands = stands }))
-    by_step (holds plain is) = record { quiet = quiet; plain = plain; applies = subst (λ (t : AbstractState). Applies game p (record s { vertex = v }) t) is applies }
-
 -- After a word that was closed, less is left to be done, whatever is led on from.
 pub lead_less : (old middle new : SetsOfVertices) (q c word : ℕ) → ClosesWord old middle q c word → weight new ≤ weight middle → (v : ℕ) → IsOpen old v q → IsInWord q c word v q → weight new < weight old
 lead_less old middle new q c word closing lighter v is there = let less = closing.less v is there in omega (arith, less, lighter)
@@ -92,9 +77,6 @@ held_by false held word b A told whole none set = (
   λ is. absurd (true_not_false (sym (told.1 is))),
 )
 
--- What was met passes where it holds.
-pub holds_passes : (game : AbstractGame) → IsNumbered game.rules → (s : AbstractState) (f : Start) (v p u : ℕ) (A : Type 0) → IsMet game s f v p → u ≡ v → A ↔ Holds game s v p → A ↔ Passes game s u p
-holds_passes game numbered s f v p u A met same told = subst (λ (w : ℕ). A ↔ Passes game s w p) (sym same) (
-  λ is. let holds = told.0 is in record { to = v; quiet = holds.quiet; applies = holds.applies },
-  λ passes. told.1 (tried_holds game numbered s f v p passes.to met passes.quiet passes.applies),
-)
+-- What holds at a vertex holds at the same one.
+pub holds_same : (game : AbstractGame) (s : AbstractState) (v p u : ℕ) (A : Type 0) → u ≡ v → A ↔ Holds game s v p → A ↔ Holds game s u p
+holds_same game s v p u A same told = subst (λ (w : ℕ). A ↔ Holds game s w p) (sym same) told

@@ -1,11 +1,10 @@
 -- What is to be looked at where it is met.
 use Rattle.std.proofs.Common.{◌≡◌, ℕ, ◌<◌, inl, inr, List, true, false, length, sym, ap, subst, ◌∙◌, ◌↔◌}
-use Rattle.rbg_board.specs.Graph.{IsClosed}
 use Rattle.rbg_base.specs.declared.relation.Relation.{Relation}
 use Rattle.rbg_rules.specs.Meaning.{on, comparison, positive, negative, Expression, AbstractArithmetic, IsGame, HasAction, IsModifierAt, IsNumbered, IsPatternAt, is_modifier, is_pattern, AbstractGame, AbstractState, IsStateOf, Start}
 use Rattle.rbg_rules.proofs.PositionLemmas.{one_action_at}
-use Rattle.rbg_flat.proofs.Common.{Holds, IsMet, first, then, IsComparisonAt, Passes, IsOneOf, IsToTry}
-use Rattle.rbg_flat.proofs.Leaping.{leads_on_board}
+use Rattle.rbg_flat.proofs.Common.{Way, Holds, IsMet, first, then, IsComparisonAt, IsOneOf, IsToTry}
+use Rattle.rbg_flat.proofs.Leaping.{first_on_board, lead_on_board}
 use Rattle.rbg_flat.proofs.ModifierLemmas.{pattern_opens, comparison_quiet, no_comparison_on, no_comparison_pattern}
 use Rattle.rbg_flat.proofs.Passings.{on_passes, passes_on}
 
@@ -21,7 +20,7 @@ no_on rules numbered p pattern wanted stands = elim pattern.stands [
 
 module _ (game : AbstractGame) (numbered : IsNumbered game.rules) (s : AbstractState) (p : ℕ) where
   -- Where no comparison stands, none has to hold.
-  none_holds : (¬ IsComparisonAt game.rules p) → (v : ℕ) (e : AbstractArithmetic) (r : Relation) (f : AbstractArithmetic) → HasAction game.rules p (comparison e r f) → Passes game s v p
+  none_holds : (¬ IsComparisonAt game.rules p) → (v : ℕ) (e : AbstractArithmetic) (r : Relation) (f : AbstractArithmetic) → HasAction game.rules p (comparison e r f) → Holds game s v p
   none_holds none v e r f stands = absurd (none (record { left = e; relation = r; right = f; stands = stands }))
 
   -- A pattern is to be looked at everywhere.
@@ -37,7 +36,7 @@ module _ (game : AbstractGame) (numbered : IsNumbered game.rules) (s : AbstractS
   other_to_try quiet none no_comparison v = record { quiet = quiet; stands = λ wanted stands. absurd (none wanted stands); holds = none_holds no_comparison v }
 
   -- A comparison is to be looked at where it passes.
-  pub comparison_to_try : IsComparisonAt game.rules p → (v : ℕ) → Passes game s v p ↔ IsToTry game s v p
+  pub comparison_to_try : IsComparisonAt game.rules p → (v : ℕ) → Holds game s v p ↔ IsToTry game s v p
   comparison_to_try is v = (
     λ passes. record {
       quiet = comparison_quiet game.rules numbered p is;
@@ -61,27 +60,24 @@ module _ (game : AbstractGame) (numbered : IsNumbered game.rules) (s : AbstractS
       by_same : (others : List ℕ) → on wanted ≡ on others → IsOneOf wanted s.pieces v → IsOneOf others s.pieces v
       by_same others same one = subst (λ (xs : List ℕ). IsOneOf xs s.pieces v) (cc same) one
 
-  pub tried_passes : (wanted : List ℕ) → HasAction game.rules p (on wanted) → (v : ℕ) → IsToTry game s v p → Passes game s v p
+  pub tried_passes : (wanted : List ℕ) → HasAction game.rules p (on wanted) → (v : ℕ) → IsToTry game s v p → Holds game s v p
   tried_passes wanted stands v is = on_passes game numbered s p wanted stands v (is.stands wanted stands)
 
 -- What is met is on the board.
-pub met_on_board : (game : AbstractGame) → IsClosed game.board → (s : AbstractState) (f : Start) → s.vertex < length game.board.first → (v p : ℕ) → IsMet game s f v p → v < length game.board.first
-met_on_board game closed s f here v p (first leap) = leads_on_board game closed s.vertex leap.shifts v here leap.leads
-met_on_board game closed s f here v p (then {v = u} {q = q} met holds leap) = leads_on_board game closed u leap.shifts v (met_on_board game closed s f here u q met) leap.leads
+pub met_on_board : (way : Way) (game : AbstractGame) → IsGame game → (s : AbstractState) (f : Start) → s.vertex < length game.board.first → (v p : ℕ) → IsMet way game s f v p → v < length game.board.first
+met_on_board way game lawful s f here v p (first lead) = first_on_board way game lawful f s.vertex p v here lead
+met_on_board way game lawful s f here v p (then {v = u} {q = q} met holds lead) = lead_on_board way game lawful q u p v (met_on_board way game lawful s f here u q met) lead
 
 -- What was met and holds is to be looked at.
-pub holds_to_try : (game : AbstractGame) → IsGame game → (s : AbstractState) → IsStateOf game s → (f : Start) (v p : ℕ) → IsMet game s f v p → Holds game s v p → IsToTry game s v p
-holds_to_try game lawful s fits f v p met holds = record {
+pub holds_to_try : (way : Way) (game : AbstractGame) → IsGame game → (s : AbstractState) → IsStateOf game s → (f : Start) (v p : ℕ) → IsMet way game s f v p → Holds game s v p → IsToTry game s v p
+holds_to_try way game lawful s fits f v p met holds = record {
   quiet = holds.quiet;
   stands = λ wanted stands.
       let here : s.vertex < length game.board.first = subst (λ (k : ℕ). s.vertex < k) fits.vertices fits.vertex in
-      let below : v < length s.pieces = subst (λ (k : ℕ). v < k) (sym fits.vertices) (met_on_board game lawful.board s f here v p met) in
-      passes_on game lawful.numbered s p wanted stands v below passes;
-  holds = λ e r g stands. passes;
+      let below : v < length s.pieces = subst (λ (k : ℕ). v < k) (sym fits.vertices) (met_on_board way game lawful s f here v p met) in
+      passes_on game lawful.numbered s p wanted stands v below holds;
+  holds = λ e r g stands. holds;
 }
-  where
-    passes : Passes game s v p
-    passes = record { to = v; quiet = holds.quiet; applies = holds.applies }
 
 -- What tells that one of an on's pieces stands there tells that it is to be tried.
 pub on_told : (game : AbstractGame) → IsNumbered game.rules → (s : AbstractState) (p : ℕ) (wanted : List ℕ) → HasAction game.rules p (on wanted) → (v : ℕ) (B : Type 0) → B ↔ IsOneOf wanted s.pieces v → B ↔ IsToTry game s v p

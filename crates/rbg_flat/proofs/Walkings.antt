@@ -11,12 +11,11 @@ use Rattle.rbg_shifts.proofs.Common.{IsLeap, EndsAcross}
 use Rattle.rbg_shifts.specs.declared.target.Target.{Target}
 use Rattle.rbg_flat.specs.declared.walk.Walk.{Walk}
 use Rattle.rbg_flat.specs.internal.Walking.{IsPassage, IsPassable, IsWaiting, IsNoted, IsWalk, GoesOn, TakesLast, Walks}
-use Rattle.rbg_flat.proofs.Common.{at_vertex, most_candidates, EndsMet, Holds, IsCandidate, IsMet, first, then, IsComparisonAt, Facts, Kind, IsKind, Comparison, On, OnEither, IsDeadEnd, IsInWord, IsPositionIn, IsToTry, LearnsEnd}
-use Rattle.rbg_flat.proofs.ChainLemmas.{candidate_of, chain_law, met_of}
+use Rattle.rbg_flat.proofs.Common.{leaping, at_vertex, most_candidates, EndsMet, Holds, IsCandidate, IsMet, first, then, IsComparisonAt, Facts, Kind, IsKind, Comparison, On, OnEither, IsDeadEnd, IsInWord, IsPositionIn, IsToTry, LearnsEnd}
+use Rattle.rbg_flat.proofs.ChainLemmas.{chain_law, met_of, part_of}
 use Rattle.rbg_flat.proofs.Endings.{no_bit}
 use Rattle.rbg_flat.proofs.Numberings.{HasNumber, few_pairs}
 use Rattle.rbg_flat.proofs.Steps.{all_marked, ends_are_met}
-use Rattle.rbg_flat.proofs.Takings.{tried_holds}
 use Rattle.rbg_flat.proofs.ModifierLemmas.{comparison_plain, comparison_quiet}
 use Rattle.rbg_flat.proofs.ToTry.{comparison_to_try, holds_to_try, no_on, tried_passes}
 
@@ -439,8 +438,8 @@ module _ (game : AbstractGame) (lawful : IsGame game) (s : AbstractState) (fits 
   }
 
   -- What was met and holds waits, where it is met by leaps that were met last.
-  wanted : (u p : ℕ) → IsMet game here f u p → Holds game here u p → IsToTry game s u p
-  wanted u p met holds = try_there u p (holds_to_try game lawful here fits_here f u p met holds)
+  wanted : (u p : ℕ) → IsMet leaping game here f u p → Holds game here u p → IsToTry game s u p
+  wanted u p met holds = try_there u p (holds_to_try leaping game lawful here fits_here f u p met holds)
 
   pub walk_begins : (old new : Walk) (was : IsWalk game s old) (ends : Bool) → ((v p : ℕ) → ¬ Contains was.pairs (v, p)) → ((v p : ℕ) → ¬ IsWaiting old v p) → GoesOn game s old was new (λ v p. IsLeap game f vertex p v) → IsTrue ends ↔ EndsAcross game f vertex → Walks game s here f new ends
   walk_begins old new was ends none idle goes told = record {
@@ -479,14 +478,14 @@ module _ (game : AbstractGame) (lawful : IsGame game) (s : AbstractState) (fits 
       has : Contains walks.is_walk.pairs (v, q)
       has = walks.is_walk.waits v q (was_waiting game s old middle walks.is_walk v q takes)
 
-      met : IsMet game here f v q
+      met : IsMet leaping game here f v q
       met = walks.begun.sound v q has
 
       pub holds : Holds game here v q
       holds =
           let tries = try_there v q (walks.begun.to_try v q (was_waiting game s old middle walks.is_walk v q takes)) in
           let passes = (walks.is_walk.passage v q has).passes tries in
-          tried_holds game lawful.numbered here f v q passes.to met passes.quiet passes.applies
+          record { to = passes.to; quiet = passes.quiet; applies = passes.applies }
 
       pub starts : IsStart game.rules (after q)
       starts = (holds.applies.action, holds.applies.stands)
@@ -495,7 +494,7 @@ module _ (game : AbstractGame) (lawful : IsGame game) (s : AbstractState) (fits 
       on_board = walks.is_walk.vertex v q has
 
       module _ (new : Walk) (all : Bool) (goes : GoesOn game s middle was new (λ u p. IsLeap game (after q) v p u)) (learns : LearnsEnd ends all (EndsAcross game (after q) v)) where
-        met_then : (u p : ℕ) → Contains walks.is_walk.pairs (u, p) ⊎ IsLeap game (after q) v p u → IsMet game here f u p
+        met_then : (u p : ℕ) → Contains walks.is_walk.pairs (u, p) ⊎ IsLeap game (after q) v p u → IsMet leaping game here f u p
         met_then u p (inl there) = walks.begun.sound u p there
         met_then u p (inr leap) = then met holds leap
 
@@ -539,7 +538,7 @@ module _ (game : AbstractGame) (lawful : IsGame game) (s : AbstractState) (fits 
             by_case (inl same) = learns.all (subst (λ (x : ℕ × ℕ). EndsAcross game (after x.1) x.0) (sym same) end)
             by_case (inr other) = learns.kept (walks.begun.closed_end u p there (idle_before u p idle other) is end)
 
-        end_then : (ends ≡ true) ⊎ EndsAcross game (after q) v → EndsMet game here f
+        end_then : (ends ≡ true) ⊎ EndsAcross game (after q) v → EndsMet leaping game here f
         end_then (inl before) = walks.begun.sound_end before
         end_then (inr end) = inr (record { vertex = v; position = q; met = met; holds = holds; ends = end })
 
@@ -562,7 +561,7 @@ module _ (game : AbstractGame) (lawful : IsGame game) (s : AbstractState) (fits 
   walk_ends walk ends walks none = record {
     candidates = record {
       pairs = walks.is_walk.pairs;
-      all = λ v p. (λ there. candidate_of game lawful.numbered here f v p (walks.begun.sound v p there), λ candidate. listed v p candidate);
+      all = λ v p. (λ there. part_of leaping game lawful.numbered here f v p (walks.begun.sound v p there), λ candidate. listed v p candidate);
       different = walks.is_walk.different;
       count = walks.is_walk.count;
     };
@@ -570,8 +569,8 @@ module _ (game : AbstractGame) (lawful : IsGame game) (s : AbstractState) (fits 
     no_modifier = λ v p candidate. (walks.is_walk.passage v p (listed v p candidate)).quiet;
     no_pattern = λ v p candidate. (walks.is_walk.passage v p (listed v p candidate)).plain;
     may_end =
-        let met = ends_are_met game here f (λ v p. Contains walks.is_walk.pairs (v, p)) (IsWaiting walk) ends walks.begun idle in
-        let law = (chain_law game lawful.numbered here f).1 in
+        let met = ends_are_met leaping game here f (λ v p. Contains walks.is_walk.pairs (v, p)) (IsWaiting walk) ends walks.begun idle in
+        let law = (chain_law leaping game lawful.numbered here f).1 in
         ((λ told. law.0 (met.0 told)), (λ end. met.1 (law.1 end)));
   }
     where
@@ -579,4 +578,4 @@ module _ (game : AbstractGame) (lawful : IsGame game) (s : AbstractState) (fits 
       idle = none_waits walk none
 
       listed : (v p : ℕ) → IsCandidate game here f v p → Contains walks.is_walk.pairs (v, p)
-      listed v p candidate = all_marked game here f (λ v p. Contains walks.is_walk.pairs (v, p)) (IsWaiting walk) ends walks.begun idle v p (met_of game lawful.numbered here f v p candidate)
+      listed v p candidate = all_marked leaping game here f (λ v p. Contains walks.is_walk.pairs (v, p)) (IsWaiting walk) ends walks.begun idle v p (met_of leaping game lawful.numbered here f v p candidate)

@@ -1,8 +1,7 @@
 -- A word of vertices is led on from, one after another.
 use Rattle.rbg_base.proofs.Common.{◌≡◌, ◌≢◌, ℕ, ◌+◌, ◌*◌, ◌/◌, ◌%◌, ◌<◌, ◌⊎◌, inl, inr, Bool, true, refl, sym, ap, subst, ◌∙◌, arith, bit_at, bit_at-zero, bit_at-lt, ℕ_discrete}
-use Rattle.rbg_rules.specs.Meaning.{AbstractGame, after}
-use Rattle.rbg_shifts.specs.Leaps.{IsLeap, EndsAcross}
-use Rattle.rbg_flat.proofs.Common.{LeadsFrom, EndsFrom, LeadsPast, EndsPast, LearnsEnd, SetsOfVertices, IsInWord, Meets}
+use Rattle.rbg_rules.specs.Meaning.{AbstractGame}
+use Rattle.rbg_flat.proofs.Common.{Way, IsLead, EndsLead, LeadsFrom, EndsFrom, LeadsPast, EndsPast, LearnsEnd, SetsOfVertices, IsInWord, Meets}
 use Rattle.rbg_flat.proofs.Meetings.{meets_both, meets_same}
 
 not_both : {n : ℕ} → n ≡ 0 → n ≡ 1 → ⊥
@@ -14,12 +13,12 @@ clear_or_set n small clear = elim (ℕ_discrete n 0) [
   | no some ↦ absurd (clear (omega (arith, small, some)))
 ]
 
-module _ (game : AbstractGame) (q c word : ℕ) (Opens : (v p : ℕ) → Type 0) where
+module _ (way : Way) (game : AbstractGame) (q c word : ℕ) (Opens : (v p : ℕ) → Type 0) where
   -- All is left, so nothing was led on from.
-  pub none_past : (u p : ℕ) → ¬ LeadsPast game q c word word u p
+  pub none_past : (u p : ℕ) → ¬ LeadsPast way game q c word word u p
   none_past u p is = not_both is.past is.there.set
 
-  pub no_end_past : ¬ EndsPast game q c word word
+  pub no_end_past : ¬ EndsPast way game q c word word
   no_end_past is = not_both is.past is.there.set
 
   -- The place of a bit.
@@ -49,39 +48,39 @@ module _ (game : AbstractGame) (q c word : ℕ) (Opens : (v p : ℕ) → Type 0)
       same_vertex : (v : ℕ) → IsInWord q c word v q → v % 64 ≡ bit → v ≡ c * 64 + bit
       same_vertex v there bits = let column = there.column in omega (arith, bits, column)
 
-      apart : (u p : ℕ) → LeadsPast game q c word rest' u p → LeadsPast game q c word rest u p ⊎ IsLeap game (after q) (c * 64 + bit) p u
+      apart : (u p : ℕ) → LeadsPast way game q c word rest' u p → LeadsPast way game q c word rest u p ⊎ IsLead way game q (c * 64 + bit) p u
       apart u p is = elim (ℕ_discrete (is.vertex % 64) bit) [
-        | yes bits ↦ inr (subst (λ (v : ℕ). IsLeap game (after q) v p u) (same_vertex is.vertex is.there bits) is.leap)
-        | no other ↦ inl (record { vertex = is.vertex; there = is.there; past = sym (others (is.vertex % 64) other) ∙ is.past; leap = is.leap })
+        | yes bits ↦ inr (subst (λ (v : ℕ). IsLead way game q v p u) (same_vertex is.vertex is.there bits) is.lead)
+        | no other ↦ inl (record { vertex = is.vertex; there = is.there; past = sym (others (is.vertex % 64) other) ∙ is.past; lead = is.lead })
       ]
 
-      earlier : (u p : ℕ) → LeadsPast game q c word rest u p → LeadsPast game q c word rest' u p
-      earlier u p is = record { vertex = is.vertex; there = is.there; past = past_then (is.vertex % 64) is.past; leap = is.leap }
+      earlier : (u p : ℕ) → LeadsPast way game q c word rest u p → LeadsPast way game q c word rest' u p
+      earlier u p is = record { vertex = is.vertex; there = is.there; past = past_then (is.vertex % 64) is.past; lead = is.lead }
 
-      now : (u p : ℕ) → IsLeap game (after q) (c * 64 + bit) p u → LeadsPast game q c word rest' u p
-      now u p leap = record { vertex = c * 64 + bit; there = here; past = past_here; leap = leap }
+      now : (u p : ℕ) → IsLead way game q (c * 64 + bit) p u → LeadsPast way game q c word rest' u p
+      now u p leap = record { vertex = c * 64 + bit; there = here; past = past_here; lead = leap }
 
-      pub meets_bit : (old middle new : SetsOfVertices) → Meets old middle (LeadsPast game q c word rest) Opens → Meets middle new (λ u p. IsLeap game (after q) (c * 64 + bit) p u) Opens → Meets old new (LeadsPast game q c word rest') Opens
-      meets_bit old middle new one other = meets_both old middle new (LeadsPast game q c word rest) (λ u p. IsLeap game (after q) (c * 64 + bit) p u) (LeadsPast game q c word rest') Opens one other apart earlier now
+      pub meets_bit : (old middle new : SetsOfVertices) → Meets old middle (LeadsPast way game q c word rest) Opens → Meets middle new (λ u p. IsLead way game q (c * 64 + bit) p u) Opens → Meets old new (LeadsPast way game q c word rest') Opens
+      meets_bit old middle new one other = meets_both old middle new (LeadsPast way game q c word rest) (λ u p. IsLead way game q (c * 64 + bit) p u) (LeadsPast way game q c word rest') Opens one other apart earlier now
 
-      pub ends_bit : (old middle new : Bool) → LearnsEnd old middle (EndsPast game q c word rest) → LearnsEnd middle new (EndsAcross game (after q) (c * 64 + bit)) → LearnsEnd old new (EndsPast game q c word rest')
+      pub ends_bit : (old middle new : Bool) → LearnsEnd old middle (EndsPast way game q c word rest) → LearnsEnd middle new (EndsLead way game q (c * 64 + bit)) → LearnsEnd old new (EndsPast way game q c word rest')
       ends_bit old middle new one other = record {
         kept = λ is. other.kept (one.kept is);
         all = all_ends;
         only = λ is. by_new (other.only is);
       }
         where
-          all_ends : EndsPast game q c word rest' → new ≡ true
+          all_ends : EndsPast way game q c word rest' → new ≡ true
           all_ends is = elim (ℕ_discrete (is.vertex % 64) bit) [
-            | yes bits ↦ other.all (subst (λ (v : ℕ). EndsAcross game (after q) v) (same_vertex is.vertex is.there bits) is.ends)
+            | yes bits ↦ other.all (subst (λ (v : ℕ). EndsLead way game q v) (same_vertex is.vertex is.there bits) is.ends)
             | no differs ↦ other.kept (one.all (record { vertex = is.vertex; there = is.there; past = sym (others (is.vertex % 64) differs) ∙ is.past; ends = is.ends }))
           ]
 
-          by_old : (old ≡ true) ⊎ EndsPast game q c word rest → (old ≡ true) ⊎ EndsPast game q c word rest'
+          by_old : (old ≡ true) ⊎ EndsPast way game q c word rest → (old ≡ true) ⊎ EndsPast way game q c word rest'
           by_old (inl was) = inl was
           by_old (inr is) = inr (record { vertex = is.vertex; there = is.there; past = past_then (is.vertex % 64) is.past; ends = is.ends })
 
-          by_new : (middle ≡ true) ⊎ EndsAcross game (after q) (c * 64 + bit) → (old ≡ true) ⊎ EndsPast game q c word rest'
+          by_new : (middle ≡ true) ⊎ EndsLead way game q (c * 64 + bit) → (old ≡ true) ⊎ EndsPast way game q c word rest'
           by_new (inl was) = by_old (one.only was)
           by_new (inr ends) = inr (record { vertex = c * 64 + bit; there = here; past = past_here; ends = ends })
 
@@ -89,20 +88,20 @@ module _ (game : AbstractGame) (q c word : ℕ) (Opens : (v p : ℕ) → Type 0)
   nothing : (rest b : ℕ) → rest ≡ 0 → bit_at rest b ≡ 0
   nothing rest b none = ap (λ (n : ℕ). bit_at n b) none ∙ bit_at-zero b
 
-  pub meets_all : (rest : ℕ) → rest ≡ 0 → (old new : SetsOfVertices) → Meets old new (LeadsPast game q c word rest) Opens → Meets old new (LeadsFrom game q c word) Opens
+  pub meets_all : (rest : ℕ) → rest ≡ 0 → (old new : SetsOfVertices) → Meets old new (LeadsPast way game q c word rest) Opens → Meets old new (LeadsFrom way game q c word) Opens
   meets_all rest none old new meets =
-      meets_same old new (LeadsPast game q c word rest) (LeadsFrom game q c word) Opens Opens meets
-      (λ u p is. record { vertex = is.vertex; there = is.there; leap = is.leap })
-      (λ u p is. record { vertex = is.vertex; there = is.there; past = nothing rest (is.vertex % 64) none; leap = is.leap })
+      meets_same old new (LeadsPast way game q c word rest) (LeadsFrom way game q c word) Opens Opens meets
+      (λ u p is. record { vertex = is.vertex; there = is.there; lead = is.lead })
+      (λ u p is. record { vertex = is.vertex; there = is.there; past = nothing rest (is.vertex % 64) none; lead = is.lead })
       (λ u p _ is. is) (λ u p _ is. is)
 
-  pub ends_all : (rest : ℕ) → rest ≡ 0 → (old new : Bool) → LearnsEnd old new (EndsPast game q c word rest) → LearnsEnd old new (EndsFrom game q c word)
+  pub ends_all : (rest : ℕ) → rest ≡ 0 → (old new : Bool) → LearnsEnd old new (EndsPast way game q c word rest) → LearnsEnd old new (EndsFrom way game q c word)
   ends_all rest none old new learns = record {
     kept = learns.kept;
     all = λ is. learns.all (record { vertex = is.vertex; there = is.there; past = nothing rest (is.vertex % 64) none; ends = is.ends });
     only = λ is. by (learns.only is);
   }
     where
-      by : (old ≡ true) ⊎ EndsPast game q c word rest → (old ≡ true) ⊎ EndsFrom game q c word
+      by : (old ≡ true) ⊎ EndsPast way game q c word rest → (old ≡ true) ⊎ EndsFrom way game q c word
       by (inl was) = inl was
       by (inr is) = inr (record { vertex = is.vertex; there = is.there; ends = is.ends })

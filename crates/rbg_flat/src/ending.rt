@@ -52,7 +52,10 @@ impl Paths {
             return None;
         }
         let origin = Origin::Begin(Expr::Inside(pattern));
-        let (targets, ends) = self.leaps.leads(origin, vertex);
+        let Some(leaps) = self.leaps() else {
+            return None;
+        };
+        let (targets, ends) = leaps.leads(origin, vertex);
         let setting = Setting {
             game,
             paths: self,

@@ -1,20 +1,23 @@
 //! A flat part that is being found, by sets of vertices.
 ghost use Rattle.std.specs.Prelude.{◌≡◌, ◌≢◌, ℕ, ◌+◌, ◌*◌, ◌/◌, ◌<◌, ◌≤◌, ◌↔◌, ◌⊎◌, ◌^◌, length, IfOk, IfErr, IfSome, IfNone, OnOk, IsTrue, false};
-ghost use Rattle.rbg_rules.specs.Meaning.{IsGame, IsStart, IsNumbered, IsPatternAt, positions_of, AbstractGame, AbstractState, IsStateOf, Start};
-ghost use Rattle.rbg_shifts.specs.Leaps.{IsLeap, EndsAcross};
+ghost use Rattle.rbg_board.specs.Graph.{next};
+ghost use Rattle.rbg_rules.specs.Meaning.{shift, HasAction, IsGame, IsStart, IsNumbered, IsPatternAt, positions_of, AbstractGame, AbstractState, IsStateOf, Start};
+ghost use Rattle.rbg_shifts.specs.Leaps.{IsShiftAt};
+ghost use Rattle.rbg_shifts.specs.Made.{AreLeapsOf};
 ghost use Rattle.rbg_shifts.specs.Origin.{start_of};
 ghost use Rattle.rbg_flat.specs.Candidates.{MayEnd};
 ghost use Rattle.rbg_flat.specs.Chains.{Holds};
-ghost use Rattle.rbg_flat.specs.Paths.{ArePathsOf, IsStill};
-ghost use Rattle.rbg_flat.specs.Found.{AreFound, HasCandidates, most_candidates};
+ghost use Rattle.rbg_flat.specs.Paths.{ArePathsOf, Stays, way_of};
+ghost use Rattle.rbg_flat.specs.Ways.{Way, leaping, stepping, IsFirstLead, EndsFirst, IsLead, EndsLead};
+ghost use Rattle.rbg_flat.specs.Found.{AreFound, HasPairs, most_candidates};
 ghost use Rattle.rbg_flat.specs.Met.{CountsMet};
 ghost use Rattle.rbg_flat.specs.internal.Begun.{IsBegun};
-ghost use Rattle.rbg_flat.specs.internal.Passing.{Passes};
 ghost use Rattle.rbg_flat.specs.internal.Sets.{IsInWord, IsMarked, IsOpen, IsDone, KeepsDone, WaitsLast, weight};
 ghost use Rattle.rbg_flat.specs.internal.Places.{IsLatest, IsSomeOpen};
 ghost use Rattle.std.specs.Int.{bit_at};
 ghost use Rattle.rbg_flat.specs.internal.Leading.{AreSizedFor, AreOn, IsOnBoard, IsPositionIn, LeadsFrom, EndsFrom};
-ghost use Rattle.rbg_flat.specs.internal.Setting.{AreReady, HasBegun, LeadsOn};
+ghost use Rattle.rbg_flat.specs.internal.Shown.{direction_in};
+ghost use Rattle.rbg_flat.specs.internal.Setting.{AreReady, HasBegun, LeadsOn, way_in};
 
 use crate::found::Modifiers;
 use crate::gathering::{count_place, gather_place, keeps};
@@ -24,9 +27,9 @@ use crate::paths::{Kind, Paths};
 use crate::sets::Sets;
 use crate::setting::Setting;
 use crate::words::{lowest, unit_word, without};
-use rbg_base::{Memory, Pair, Position, Vertex};
-use rbg_rules::Game;
-use rbg_shifts::Origin;
+use rbg_base::{Direction, Memory, Pair, Position, Vertex};
+use rbg_rules::{Action, Game};
+use rbg_shifts::{Leaps, Origin};
 use rbg_state::SemiState;
 use std::alloc::Global;
 
@@ -66,7 +69,7 @@ impl Flat {
         requires sized { AreSizedFor game.now self.old.sets }
         requires stands { IsStart game.now.rules (start_of origin) }
         ensures sized { AreSizedFor game.now self.new.sets }
-        ensures begun { IsBegun game.now state.now.state (start_of origin) (IsMarked self.new.sets)
+        ensures begun { IsBegun (way_of paths.now) game.now state.now.state (start_of origin) (IsMarked self.new.sets)
             (IsOpen self.new.sets) self.new.ends }
         ensures on { AreOn game.now self.new.sets }
         ensures fresh { (v p : ℕ) → IsPatternAt game.now.rules p → ¬ IsDone self.new.sets v p }
@@ -88,9 +91,9 @@ impl Flat {
         ensures sized { AreSizedFor game.now self.new.sets }
         ensures on { AreOn game.now self.new.sets }
         ensures begun { (f : Start)
-            → IsBegun game.now state.now.state f (IsMarked self.old.sets) (IsOpen self.old.sets)
+            → IsBegun (way_of paths.now) game.now state.now.state f (IsMarked self.old.sets) (IsOpen self.old.sets)
             self.old.ends
-            → IsBegun game.now state.now.state f (IsMarked self.new.sets) (IsOpen self.new.sets)
+            → IsBegun (way_of paths.now) game.now state.now.state f (IsMarked self.new.sets) (IsOpen self.new.sets)
             self.new.ends }
         ensures asked { IfSome result (λ pair. IsOpen self.new.sets pair.0 pair.1
             × IsMarked self.new.sets pair.0 pair.1 × IsPatternAt game.now.rules pair.1) }
@@ -137,9 +140,9 @@ impl Flat {
         ensures on { AreOn game.now self.old.sets → AreOn game.now self.new.sets }
         ensures begun { (f : Start)
             → IsTrue valid ↔ Holds game.now state.now.state vertex position
-            → IsBegun game.now state.now.state f (IsMarked self.old.sets) (IsOpen self.old.sets)
+            → IsBegun (way_of paths.now) game.now state.now.state f (IsMarked self.old.sets) (IsOpen self.old.sets)
             self.old.ends
-            → IsBegun game.now state.now.state f (IsMarked self.new.sets) (IsOpen self.new.sets)
+            → IsBegun (way_of paths.now) game.now state.now.state f (IsMarked self.new.sets) (IsOpen self.new.sets)
             self.new.ends }
         ensures still_done { KeepsDone self.old.sets self.new.sets }
         ensures done { IsDone self.new.sets vertex position }
@@ -158,8 +161,9 @@ impl Flat {
 
     /// Whether a word may end with no modifier more, once nothing is left to be looked at.
     pub fn ends(&self) -> bool
-        ensures { (game : AbstractGame) (s : AbstractState) (f : Start) → IsNumbered game.rules
-            → IsBegun game s f (IsMarked self.now.sets) (IsOpen self.now.sets) self.now.ends
+        ensures { (way : Way) (game : AbstractGame) (s : AbstractState) (f : Start)
+            → IsNumbered game.rules
+            → IsBegun way game s f (IsMarked self.now.sets) (IsOpen self.now.sets) self.now.ends
             → ((v p : ℕ) → ¬ IsOpen self.now.sets v p) → IsTrue result ↔ MayEnd game s f }
     {
         self.ends
@@ -184,18 +188,18 @@ impl Flat {
         ensures sized { AreSizedFor game.now self.new.sets }
         ensures ends { self.new.ends ≡ self.old.ends }
         ensures found { OnOk result ((f : Start)
-            → IsBegun game.now state.now.state f (IsMarked self.old.sets) (IsOpen self.old.sets)
+            → IsBegun (way_of paths.now) game.now state.now.state f (IsMarked self.old.sets) (IsOpen self.old.sets)
             self.old.ends
             → AreFound game.now state.now.state f found.new) }
         ensures count { IfOk result (λ many. (f : Start)
-            → IsBegun game.now state.now.state f (IsMarked self.old.sets) (IsOpen self.old.sets)
+            → IsBegun (way_of paths.now) game.now state.now.state f (IsMarked self.old.sets) (IsOpen self.old.sets)
             self.old.ends
-            → HasCandidates game.now state.now.state f many) }
+            → HasPairs (way_of paths.now) game.now state.now.state f many) }
         ensures few { IfOk result (λ many. many ≤ most_candidates game.now) }
         ensures count_lost { IfErr result (λ lost. (f : Start)
-            → IsBegun game.now state.now.state f (IsMarked self.old.sets) (IsOpen self.old.sets)
+            → IsBegun (way_of paths.now) game.now state.now.state f (IsMarked self.old.sets) (IsOpen self.old.sets)
             self.old.ends
-            → HasCandidates game.now state.now.state f lost.many) }
+            → HasPairs (way_of paths.now) game.now state.now.state f lost.many) }
         ensures few_lost { IfErr result (λ lost. lost.many ≤ most_candidates game.now) }
     {
         found.clear();
@@ -236,20 +240,54 @@ impl Flat {
         many
     }
 
-    /// Leads on from a place in the rules and a vertex: meets where leaps lead from there. What is learned of the end is
-    /// written down first, so that no register holds it while targets are met.
+    /// Leads on from a place in the rules and a vertex.
     #[inline(always)]
     fn lead(&mut self, setting: &Setting, origin: Origin, vertex: Vertex)
         requires ready { AreReady setting.now self.old.sets }
         requires vertex { vertex < length setting.now.game.now.board.first }
         requires stands { IsStart setting.now.game.now.rules (start_of origin) }
         ensures { LeadsOn setting.now self.old self.new
-            (λ v p. IsLeap setting.now.game.now (start_of origin) vertex p v)
-            (EndsAcross setting.now.game.now (start_of origin) vertex) }
+            (λ v p. IsFirstLead (way_in setting.now) setting.now.game.now (start_of origin) vertex p v)
+            (EndsFirst (way_in setting.now) setting.now.game.now (start_of origin) vertex) }
     {
-        let (targets, ends) = setting.paths.leaps.leads(origin, vertex);
+        match setting.paths.leaps() {
+            Some(leaps) => self.leap(setting, leaps, origin, vertex),
+            None => self.step(setting, origin, vertex),
+        }
+    }
+
+    /// Leads on by leaps from a place in the rules and a vertex. What is learned of the end is written down first, so that
+    /// no register holds it while targets are met.
+    #[inline(always)]
+    fn leap(&mut self, setting: &Setting, leaps: &Leaps, origin: Origin, vertex: Vertex)
+        requires ready { AreReady setting.now self.old.sets }
+        requires leaps { AreLeapsOf setting.now.game.now leaps.now }
+        requires vertex { vertex < length setting.now.game.now.board.first }
+        requires stands { IsStart setting.now.game.now.rules (start_of origin) }
+        ensures { LeadsOn setting.now self.old self.new
+            (λ v p. IsFirstLead leaping setting.now.game.now (start_of origin) vertex p v)
+            (EndsFirst leaping setting.now.game.now (start_of origin) vertex) }
+    {
+        let (targets, ends) = leaps.leads(origin, vertex);
         self.ends |= ends;
         meet_targets(&mut self.sets, setting, targets);
+    }
+
+    /// Leads on by one step from a place in the rules: to what comes next there, at the same vertex.
+    #[inline(never)]
+    fn step(&mut self, setting: &Setting, origin: Origin, vertex: Vertex)
+        requires ready { AreReady setting.now self.old.sets }
+        requires vertex { vertex < length setting.now.game.now.board.first }
+        requires stands { IsStart setting.now.game.now.rules (start_of origin) }
+        ensures { LeadsOn setting.now self.old self.new
+            (λ v p. IsFirstLead stepping setting.now.game.now (start_of origin) vertex p v)
+            (EndsFirst stepping setting.now.game.now (start_of origin) vertex) }
+    {
+        let followers = setting.paths.followers(setting.game, origin);
+        let column = vertex as usize / 64;
+        let word = unit_word(vertex % 64);
+        self.ends |= followers.ends;
+        meet_bits(&mut self.sets, setting, &followers.positions, column, word);
     }
 
     /// Tries a position at all vertices that are open at the latest waiting place, and leads on from those at which it
@@ -297,7 +335,7 @@ impl Flat {
         ensures sized { AreSizedFor setting.now.game.now self.new.sets }
         ensures begun { (f : Start)
             → ((b : ℕ) → b < 64 → bit_at word b ≡ 1 → (bit_at held b ≡ 1)
-            ↔ Passes setting.now.game.now setting.now.state.now.state (column * 64 + b) position)
+            ↔ Holds setting.now.game.now setting.now.state.now.state (column * 64 + b) position)
             → HasBegun setting.now f self.old → HasBegun setting.now f self.new }
         ensures on { AreOn setting.now.game.now self.old.sets
             → AreOn setting.now.game.now self.new.sets }
@@ -317,21 +355,46 @@ impl Flat {
         }
     }
 
-    /// Leads on from a position at each vertex of a word: at all of them at once where no shift comes next, else one after
-    /// another.
+    /// Leads on from a position at each vertex of a word: at all of them at once where one is led on from the same vertex,
+    /// else one after another.
     #[inline(always)]
     fn lead_word(&mut self, setting: &Setting, position: Position, column: usize, word: u64)
         requires ready { AreReady setting.now self.old.sets }
         requires board { IsOnBoard setting.now.game.now column word }
         requires position { IsPositionIn setting.now.game.now position }
+        requires some { word ≢ 0 }
         ensures { LeadsOn setting.now self.old self.new
-            (LeadsFrom setting.now.game.now position column word)
-            (EndsFrom setting.now.game.now position column word) }
+            (LeadsFrom (way_in setting.now) setting.now.game.now position column word)
+            (EndsFrom (way_in setting.now) setting.now.game.now position column word) }
     {
-        if word != 0 && setting.paths.facts(setting.game, position).still {
+        if setting.paths.facts(setting.game, position).still {
             self.lead_still(setting, position, column, word);
             return;
         }
+        match setting.paths.leaps() {
+            Some(leaps) => self.leap_word(setting, leaps, position, column, word),
+            None => self.step_word(setting, position, column, word),
+        }
+    }
+
+    /// Leads on by leaps from a position at each vertex of a word, one after another.
+    #[inline(always)]
+    fn leap_word(
+        &mut self,
+        setting: &Setting,
+        leaps: &Leaps,
+        position: Position,
+        column: usize,
+        word: u64,
+    )
+        requires ready { AreReady setting.now self.old.sets }
+        requires leaps { AreLeapsOf setting.now.game.now leaps.now }
+        requires board { IsOnBoard setting.now.game.now column word }
+        requires position { IsPositionIn setting.now.game.now position }
+        ensures { LeadsOn setting.now self.old self.new
+            (LeadsFrom leaping setting.now.game.now position column word)
+            (EndsFrom leaping setting.now.game.now position column word) }
+    {
         // an action stands there
         let _action = setting.game.action(position);
         let mut rest = word;
@@ -339,29 +402,131 @@ impl Flat {
             let bit = lowest(rest);
             let vertex = column as Vertex * 64 + bit;
             rest = without(rest, bit);
-            self.lead(setting, Origin::After(position), vertex);
+            self.leap(setting, leaps, Origin::After(position), vertex);
         }
     }
 
-    /// Leads on from a position at all vertices of a word at once. No shift comes next, so the first one tells of all.
+    /// Leads on by one step from a position at each vertex of a word.
+    #[inline(never)]
+    fn step_word(&mut self, setting: &Setting, position: Position, column: usize, word: u64)
+        requires ready { AreReady setting.now self.old.sets }
+        requires board { IsOnBoard setting.now.game.now column word }
+        requires position { IsPositionIn setting.now.game.now position }
+        requires some { word ≢ 0 }
+        requires way { way_in setting.now ≡ stepping }
+        ensures { LeadsOn setting.now self.old self.new
+            (LeadsFrom (way_in setting.now) setting.now.game.now position column word)
+            (EndsFrom (way_in setting.now) setting.now.game.now position column word) }
+    {
+        match direction_of(setting.game, position) {
+            Some(direction) => self.step_across(setting, position, direction, column, word),
+            None => self.lead_still(setting, position, column, word),
+        }
+    }
+
+    /// Leads on from a shift at each vertex of a word, along its edge.
+    #[inline(always)]
+    fn step_across(
+        &mut self,
+        setting: &Setting,
+        position: Position,
+        direction: Direction,
+        column: usize,
+        word: u64,
+    )
+        requires ready { AreReady setting.now self.old.sets }
+        requires board { IsOnBoard setting.now.game.now column word }
+        requires shift { HasAction setting.now.game.now.rules position (shift direction) }
+        ensures { LeadsOn setting.now self.old self.new
+            (LeadsFrom stepping setting.now.game.now position column word)
+            (EndsFrom stepping setting.now.game.now position column word) }
+    {
+        let mut rest = word;
+        while rest != 0 {
+            let bit = lowest(rest);
+            let vertex = column as Vertex * 64 + bit;
+            rest = without(rest, bit);
+            self.step_from(setting, position, direction, vertex);
+        }
+    }
+
+    /// Leads on from a shift at a vertex, along its edge, if there is one.
+    #[inline(always)]
+    fn step_from(
+        &mut self,
+        setting: &Setting,
+        position: Position,
+        direction: Direction,
+        vertex: Vertex,
+    )
+        requires ready { AreReady setting.now self.old.sets }
+        requires vertex { vertex < length setting.now.game.now.board.first }
+        requires shift { HasAction setting.now.game.now.rules position (shift direction) }
+        ensures { LeadsOn setting.now self.old self.new
+            (λ v p. IsLead stepping setting.now.game.now position vertex p v)
+            (EndsLead stepping setting.now.game.now position vertex) }
+    {
+        match edge(setting.game, vertex, direction) {
+            Some(to) => self.step(setting, Origin::After(position), to),
+            None => {}
+        }
+    }
+
+    /// Leads on from a position at all vertices of a word at once: one is led on from the same vertex.
     #[inline(always)]
     fn lead_still(&mut self, setting: &Setting, position: Position, column: usize, word: u64)
         requires ready { AreReady setting.now self.old.sets }
         requires board { IsOnBoard setting.now.game.now column word }
         requires position { IsPositionIn setting.now.game.now position }
-        requires still { IsStill setting.now.game.now.rules position }
+        requires still { Stays (way_in setting.now) setting.now.game.now.rules position }
         requires some { word ≢ 0 }
         ensures { LeadsOn setting.now self.old self.new
-            (LeadsFrom setting.now.game.now position column word)
-            (EndsFrom setting.now.game.now position column word) }
+            (LeadsFrom (way_in setting.now) setting.now.game.now position column word)
+            (EndsFrom (way_in setting.now) setting.now.game.now position column word) }
     {
-        // an action stands there
+        // an action stands there, and a bit is set
         let _action = setting.game.action(position);
-        let bit = lowest(word);
-        let vertex = column as Vertex * 64 + bit;
-        let (targets, may_end) = setting.paths.leaps.leads(Origin::After(position), vertex);
-        self.ends |= may_end;
-        meet_bits(&mut self.sets, setting, targets, column, word);
+        let _bit = lowest(word);
+        let followers = setting
+            .paths
+            .followers(setting.game, Origin::After(position));
+        self.ends |= followers.ends;
+        meet_bits(&mut self.sets, setting, &followers.positions, column, word);
+    }
+}
+
+/// The vertex to which a direction leads; none if it leads nowhere.
+fn edge(game: &Game, vertex: Vertex, direction: Direction) -> Option<Vertex>
+    requires { vertex < length game.now.board.first }
+    ensures is { result ≡ next game.now.board vertex direction }
+    ensures there { IfSome result (λ to. to < length game.now.board.first) }
+{
+    game.board().step(vertex, direction)
+}
+
+/// The direction of the shift at a position; none where something else stands.
+fn direction_of(game: &Game, position: Position) -> Option<Direction>
+    requires lawful { IsGame game.now }
+    requires position { IsPositionIn game.now position }
+    ensures some { IfSome result (λ direction. HasAction game.now.rules position (shift direction)) }
+    ensures none { IfNone result (¬ IsShiftAt game.now.rules position) }
+{
+    shown_direction(game.action(position))
+}
+
+/// The direction of a shift; none of another action.
+fn shown_direction(action: &Action) -> Option<Direction>
+    ensures { result ≡ direction_in action.now }
+{
+    match action {
+        Action::Shift { direction } => Some(*direction),
+        Action::On { .. }
+        | Action::Off { .. }
+        | Action::Assign { .. }
+        | Action::Compare { .. }
+        | Action::Switch { .. }
+        | Action::Positive
+        | Action::Negative => None,
     }
 }
 

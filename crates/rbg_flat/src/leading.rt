@@ -84,23 +84,23 @@ pub(crate) fn meet_targets(sets: &mut Sets, setting: &Setting, targets: &[Target
     }
 }
 
-/// Meets the vertices of a word at the positions of targets.
+/// Meets the vertices of a word at these positions.
 #[inline(always)]
 pub(crate) fn meet_bits(
     sets: &mut Sets,
     setting: &Setting,
-    targets: &[Target],
+    positions: &[Position],
     column: usize,
     word: u64,
 )
     requires ready { AreReady setting.now sets.old }
     requires column { column < row_words setting.now.game.now }
-    requires targets { All (λ t. IsPositionIn setting.now.game.now t.position) targets.now }
-    ensures { Meets sets.old sets.new (IsAmongBits targets.now column word)
+    requires positions { All (IsPositionIn setting.now.game.now) positions.now }
+    ensures { Meets sets.old sets.new (IsAmongBits positions.now column word)
         (IsToTryIn setting.now) }
 {
-    for target in targets {
-        let place = sets.place(target.position, column);
-        meet_at(sets, setting, place, target.position, column, word);
+    for position in positions {
+        let place = sets.place(*position, column);
+        meet_at(sets, setting, place, *position, column, word);
     }
 }

@@ -3,6 +3,7 @@
 
 mod ending;
 mod flat;
+mod followers;
 mod found;
 mod gathering;
 pub mod laws;

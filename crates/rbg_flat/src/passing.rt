@@ -3,9 +3,10 @@ ghost use Rattle.std.specs.Prelude.{◌≡◌, ◌<◌, ◌≤◌, ◌↔◌, �
 ghost use Rattle.std.specs.Int.{bit_at};
 ghost use Rattle.rbg_rules.specs.Meaning.{IsGame, IsPatternAt, positions_of, IsStateOf};
 ghost use Rattle.rbg_shifts.specs.Limits.{row_words};
+ghost use Rattle.rbg_flat.specs.Chains.{Holds};
 ghost use Rattle.rbg_flat.specs.Paths.{ArePathsOf, IsKind};
 ghost use Rattle.rbg_flat.specs.declared.paths.Kind.TheVariants.{On, Comparison};
-ghost use Rattle.rbg_flat.specs.internal.Passing.{Passes, IsOneOf, IsToTry};
+ghost use Rattle.rbg_flat.specs.internal.Passing.{IsOneOf, IsToTry};
 ghost use Rattle.rbg_flat.specs.internal.Leading.{IsOnBoard, IsPositionIn};
 ghost use Rattle.rbg_flat.specs.internal.Setting.{IsLawfulSetting, IsToTryIn};
 
@@ -173,7 +174,7 @@ pub(crate) fn held(setting: &Setting, position: Position, column: usize, word: u
     ensures within { (b : ℕ) → bit_at result b ≡ 1 → bit_at word b ≡ 1 }
     ensures told { (b : ℕ) → b < 64 → bit_at word b ≡ 1
         → IsToTryIn setting.now (column * 64 + b) position → (bit_at result b ≡ 1)
-        ↔ Passes setting.now.game.now setting.now.state.now.state (column * 64 + b) position }
+        ↔ Holds setting.now.game.now setting.now.state.now.state (column * 64 + b) position }
 {
     match setting.paths.facts(setting.game, position).kind {
         // what is to be looked at passes
@@ -193,7 +194,7 @@ fn passes_at(game: &Game, state: &SemiState, vertex: Vertex, position: Position)
     requires from_one { 0 < position }
     requires there { position ≤ length (positions_of game.now.rules) }
     requires plain { ¬ IsPatternAt game.now.rules position }
-    ensures { IsTrue result ↔ Passes game.now state.now.state vertex position }
+    ensures { IsTrue result ↔ Holds game.now state.now.state vertex position }
 {
     let Some(trial) = state.try_at(game, vertex, position) else {
         return false;
@@ -216,7 +217,7 @@ fn passing(game: &Game, state: &SemiState, position: Position, column: usize, wo
     requires board { IsOnBoard game.now column word }
     ensures within { (b : ℕ) → bit_at result b ≡ 1 → bit_at word b ≡ 1 }
     ensures told { (b : ℕ) → b < 64 → bit_at word b ≡ 1 → (bit_at result b ≡ 1)
-        ↔ Passes game.now state.now.state (column * 64 + b) position }
+        ↔ Holds game.now state.now.state (column * 64 + b) position }
 {
     let mut passed = word;
     let mut rest = word;

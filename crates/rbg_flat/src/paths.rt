@@ -1,13 +1,18 @@
-//! The leaps of a game, and what flat parts need to know of each position.
+//! How the flat parts of a game are led on, and what they need to know of each position.
 ghost use Rattle.std.specs.Prelude.{◌≡◌, ℕ, ◌+◌, ◌≤◌, ◌<◌, ◌↔◌, All, Some, length, slice_get, true, IfOk, IfSome, IfNone, IsTrue};
-ghost use Rattle.rbg_rules.specs.Meaning.{AbstractGame, IsGame, positions_of};
+ghost use Rattle.rbg_rules.specs.Meaning.{AbstractGame, IsGame, IsStart, positions_of};
 ghost use Rattle.rbg_shifts.specs.Leaps.{IsShiftAt};
-ghost use Rattle.rbg_shifts.specs.Limits.{IsTooLarge};
+ghost use Rattle.rbg_auto.specs.Steps.{AreNext};
+ghost use Rattle.rbg_shifts.specs.Made.{AreLeapsOf};
+ghost use Rattle.rbg_shifts.specs.Origin.{start_of};
 ghost use Rattle.rbg_flat.specs.Onward.{IsOnward};
-ghost use Rattle.rbg_flat.specs.Paths.{AreFacts, AreShown, ArePathsOf};
+ghost use Rattle.rbg_flat.specs.Followers.{AreFollowers};
+ghost use Rattle.rbg_flat.specs.Paths.{AreFacts, AreShown, ArePathsOf, Stays, way_by, way_if, way_of};
+ghost use Rattle.rbg_flat.specs.Ways.{leaping, stepping};
 ghost use Rattle.rbg_flat.specs.internal.Leading.{IsPositionIn};
 ghost use Rattle.rbg_flat.specs.internal.Shown.{ShowsFacts, HasNoPieces, HasPieces, shows_shift};
 
+use crate::followers::{Followers, StepTable};
 use crate::onward::{Onward, all_onward};
 use rbg_auto::{Expr, Steps};
 use rbg_base::{Memory, Piece, Position, Vertex};
@@ -50,9 +55,12 @@ pub(crate) struct Facts {
     pub other: Piece,
 }
 
-/// The leaps of a game, with the facts of each position, from 0 on.
+/// How flat parts of a game are led on: by its leaps, or step by step. The facts of each position, from 0 on, stand with it.
 pub struct Paths {
-    pub(crate) leaps: Leaps,
+    /// The leaps of the game; none where shifts are followed one by one.
+    leaps: Option<Leaps>,
+    /// What comes next at each place in the rules.
+    steps: StepTable,
     pub(crate) facts: Vec<Facts>,
     /// Whether a pattern stands at each position, from 0 on, whose inside begins with leaps to one vertex at each position,
     /// or with none, as far as was looked. It only tells where to look for a dead end: nothing rests on it. It is kept
@@ -70,6 +78,7 @@ impl Drop for Paths {
     fn drop(self) {
         let Paths {
             leaps: _,
+            steps: _,
             facts: _,
             narrow: _,
             plain: _,
@@ -79,26 +88,77 @@ impl Drop for Paths {
 }
 
 impl Paths {
-    /// The paths of a game, by the steps of its rules; none where it has no leaps.
-    pub fn new<S: Steps>(alloc: Global, game: &Game, steps: &S) -> Result<Option<Paths>, Memory>
+    /// The paths of a game, by the steps of its rules. A game that is too large has no leaps: there shifts are followed one by
+    /// one.
+    pub fn new<S: Steps>(alloc: Global, game: &Game, steps: &S) -> Result<Paths, Memory>
         requires { S.of_rules steps.now game.now.rules }
-        ensures made { IfOk result (λ made. IfSome made (ArePathsOf game.now)) }
-        ensures large { IfOk result (λ made. IfNone made (IsTooLarge game.now)) }
+        ensures { IfOk result (ArePathsOf game.now) }
     {
-        let Some(leaps) = leaps(alloc, game, steps)? else {
-            return Ok(None);
-        };
-        let facts = all_facts(alloc, game, steps)?;
+        let leaps = leaps(alloc, game, steps)?;
+        Paths::led_by(alloc, game, steps, leaps)
+    }
+
+    /// As `new`, with no leaps: shifts are followed one by one, whatever the size of the game.
+    pub fn stepwise<S: Steps>(alloc: Global, game: &Game, steps: &S) -> Result<Paths, Memory>
+        requires { S.of_rules steps.now game.now.rules }
+        ensures { IfOk result (ArePathsOf game.now) }
+    {
+        Paths::led_by(alloc, game, steps, None)
+    }
+
+    /// The paths of a game with these leaps, if there are any.
+    fn led_by<S: Steps>(
+        alloc: Global,
+        game: &Game,
+        steps: &S,
+        leaps: Option<Leaps>,
+    ) -> Result<Paths, Memory>
+        requires steps { S.of_rules steps.now game.now.rules }
+        requires leaps { IfSome leaps (AreLeapsOf game.now) }
+        ensures { IfOk result (ArePathsOf game.now) }
+    {
+        let table = StepTable::new(alloc, game, steps)?;
+        let facts = all_facts(alloc, game, steps, &leaps)?;
         let narrow = all_narrow(alloc, game, &leaps)?;
         let plain = all_plain(alloc, game, steps, &facts, &narrow)?;
         let onward = all_onward(alloc, game, steps)?;
-        Ok(Some(Paths {
+        Ok(Paths {
             leaps,
+            steps: table,
             facts,
             narrow,
             plain,
             onward,
-        }))
+        })
+    }
+
+    /// The leaps of the game, where there are any.
+    #[inline(always)]
+    pub(crate) fn leaps(&self) -> Option<&Leaps>
+        ensures some { IfSome result (λ leaps. (way_of self.now ≡ leaping)
+            × ((game : AbstractGame) → ArePathsOf game self.now → AreLeapsOf game leaps.now)) }
+        ensures none { IfNone result (way_of self.now ≡ stepping) }
+    {
+        match &self.leaps {
+            Some(leaps) => Some(leaps),
+            None => None,
+        }
+    }
+
+    /// Whether flat parts are led on by leaps. Else shifts are met one by one.
+    #[inline(always)]
+    pub fn has_leaps(&self) -> bool {
+        has_leaps(&self.leaps)
+    }
+
+    /// What comes next at a place in the rules.
+    #[inline(always)]
+    pub(crate) fn followers(&self, game: &Game, origin: Origin) -> &Followers
+        requires paths { ArePathsOf game.now self.now }
+        requires stands { IsStart game.now.rules (start_of origin) }
+        ensures { AreFollowers game.now (start_of origin) result.now }
+    {
+        self.steps.at(game, origin)
     }
 
     /// The facts of a position. They are lent, since a copy would be read as one word, from which each field is cut.
@@ -106,7 +166,7 @@ impl Paths {
     pub(crate) fn facts(&self, game: &Game, position: Position) -> &Facts
         requires paths { ArePathsOf game.now self.now }
         requires there { position ≤ length (positions_of game.now.rules) }
-        ensures { AreFacts game.now position result.now }
+        ensures { AreFacts (way_of self.now) game.now position result.now }
     {
         &self.facts[position as usize]
     }
@@ -137,20 +197,36 @@ impl Paths {
 }
 
 /// The facts of each position, from 0 on.
-fn all_facts<S: Steps>(alloc: Global, game: &Game, steps: &S) -> Result<Vec<Facts>, Memory>
+fn all_facts<S: Steps>(
+    alloc: Global,
+    game: &Game,
+    steps: &S,
+    leaps: &Option<Leaps>,
+) -> Result<Vec<Facts>, Memory>
     requires { S.of_rules steps.now game.now.rules }
     ensures all { IfOk result (λ facts.
         length facts.items ≡ length (positions_of game.now.rules) + 1) }
     ensures told { IfOk result (λ facts. (p : ℕ) (told : Facts)
-        → slice_get facts.items p ≡ Some told → AreFacts game.now p told) }
+        → slice_get facts.items p ≡ Some told → AreFacts (way_by leaps.now) game.now p told) }
 {
     let count = game.positions() + 1;
     let mut facts = Vec::with_capacity(alloc, count)?;
+    let leaping = has_leaps(leaps);
     for index in 0..count {
         let position = index as Position;
-        facts.push(facts_at(game, position, steps.next(position)))?;
+        facts.push(facts_at(game, position, steps.next(position), leaping))?;
     }
     Ok(facts)
+}
+
+/// Whether there are leaps.
+fn has_leaps(leaps: &Option<Leaps>) -> bool
+    ensures { way_by leaps.now ≡ way_if result }
+{
+    match leaps {
+        Some(_) => true,
+        None => false,
+    }
 }
 
 /// The flag of a position; false where there is none.
@@ -163,9 +239,12 @@ fn flag_at(flags: &[bool], position: Position) -> bool {
 }
 
 /// Whether the inside of a pattern is narrow at its beginning, for each position, from 0 on.
-fn all_narrow(alloc: Global, game: &Game, leaps: &Leaps) -> Result<Vec<bool>, Memory> {
+fn all_narrow(alloc: Global, game: &Game, leaps: &Option<Leaps>) -> Result<Vec<bool>, Memory> {
     let count = game.positions() + 1;
     let mut narrow = vec![in alloc; false; count]?;
+    let Some(leaps) = leaps else {
+        return Ok(narrow);
+    };
     for index in 1..count {
         let position = index as Position;
         narrow[index] = game.is_pattern(position) && is_narrow_inside(game, leaps, position);
@@ -260,19 +339,34 @@ fn are_single(targets: &[Target]) -> bool {
     true
 }
 
-/// The facts of a position, after which these come next. No action stands at position 0.
-fn facts_at(game: &Game, position: Position, next: &[Position]) -> Facts
+/// The facts of a position, after which these come next, if flat parts are led on by leaps or step by step. No action
+/// stands at position 0.
+fn facts_at(game: &Game, position: Position, next: &[Position], leaping: bool) -> Facts
     requires lawful { IsGame game.now }
     requires there { position ≤ length (positions_of game.now.rules) }
-    requires within { All (IsPositionIn game.now) next.now }
-    ensures still { IsTrue result.still → All (λ q. ¬ IsShiftAt game.now.rules q) next.now }
+    requires next { AreNext game.now.rules position next.now }
+    ensures still { IsTrue result.still → Stays (way_if leaping) game.now.rules position }
     ensures shown { AreShown game.now.rules position result }
 {
-    let still = no_shift(game, next);
     if position == 0 {
-        return plain_facts(still, Kind::Plain, false);
+        return plain_facts(false, Kind::Plain, false);
     }
+    let still = stays(game, position, next, leaping);
     facts_of(game.action(position), still)
+}
+
+/// Whether one is led on from the same vertex where a position holds, after which these come next.
+fn stays(game: &Game, position: Position, next: &[Position], leaping: bool) -> bool
+    requires lawful { IsGame game.now }
+    requires position { IsPositionIn game.now position }
+    requires next { AreNext game.now.rules position next.now }
+    ensures { IsTrue result → Stays (way_if leaping) game.now.rules position }
+{
+    if leaping {
+        no_shift(game, next)
+    } else {
+        !is_shift(game, position)
+    }
 }
 
 /// The facts of an action.

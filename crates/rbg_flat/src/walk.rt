@@ -131,7 +131,10 @@ impl Walk {
         ensures ends { IfSome result (λ ends.
             IsTrue ends ↔ EndsAcross setting.now.game.now (start_of origin) vertex) }
     {
-        let (targets, ends) = setting.paths.leaps.leads(origin, vertex);
+        let Some(leaps) = setting.paths.leaps() else {
+            return None;
+        };
+        let (targets, ends) = leaps.leads(origin, vertex);
         if self.meet_all(setting, targets) {
             Some(ends)
         } else {

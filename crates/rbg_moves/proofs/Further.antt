@@ -6,8 +6,8 @@ use Rattle.rbg_rules.specs.Meaning.{IsNumbered, IsModifierAt, IsSwitchAt, Start,
 use Rattle.rbg_rules.proofs.MoveLemmas.{Applies_one}
 use Rattle.rbg_rules.proofs.TableLemmas.{numbered_action}
 use Rattle.rbg_state.specs.History.{History}
-use Rattle.rbg_pairs.specs.Flat.{IsNext, IsFlatPart}
-use Rattle.rbg_pairs.proofs.Meetings.{met_once}
+use Rattle.rbg_search.specs.Flat.{IsNext, IsFlatPart}
+use Rattle.rbg_moves.proofs.Once.{met_once}
 use Rattle.rbg_search.proofs.Common.{IsAnswered, HasReached, CountsForced, GoesOn, CountsUpTo, IsTooDeep, from_here, somewhere, Searching, CountsPairs}
 use Rattle.rbg_search.specs.declared.over.Over.{Over}
 use Rattle.rbg_search.specs.declared.over.Over.TheVariants.{Deep, Wide}

@@ -1,4 +1,5 @@
 -- Lemmas, by topic.
+pub mod Once
 pub mod Gathering
 pub mod Steps
 pub mod Order

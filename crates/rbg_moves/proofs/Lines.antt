@@ -7,7 +7,7 @@ use Rattle.rbg_rules.proofs.TableLemmas.{numbered_action}
 use Rattle.rbg_state.specs.History.{History}
 use Rattle.rbg_flat.specs.Onward.{IsAlone, IsOnward}
 use Rattle.rbg_flat.specs.declared.onward.Onward.TheVariants.{Modifier}
-use Rattle.rbg_pairs.specs.Start.{IsPositionOf}
+use Rattle.rbg_search.specs.Start.{IsPositionOf}
 use Rattle.rbg_search.proofs.Common.{Searching, IsSpent, most_pairs_of}
 use Rattle.rbg_search.proofs.Alone.{some_pair}
 use Rattle.rbg_search.proofs.Lone.{further, spent_further, line_answered, line_reached}

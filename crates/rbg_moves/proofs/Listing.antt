@@ -4,8 +4,8 @@ use Rattle.std.proofs.lemmas.List.Sorted.{IsPermutation-sym, Contains-permutatio
 use Rattle.rbg_base.specs.Move.{most_pairs, IsMoveLength}
 use Rattle.rbg_rules.specs.Meaning.{IsNumbered, IsSwitchAt, AbstractGame, AbstractState, Applies, AbstractPlace, point_of, Legal, IsLegal}
 use Rattle.rbg_rules.proofs.MoveLemmas.{Applies_one}
-use Rattle.rbg_pairs.specs.Flat.{IsNext, IsFlatPart}
-use Rattle.rbg_pairs.proofs.Meetings.{met_once}
+use Rattle.rbg_search.specs.Flat.{IsNext, IsFlatPart}
+use Rattle.rbg_moves.proofs.Once.{met_once}
 use Rattle.rbg_search.proofs.Orders.{still_differ}
 use Rattle.rbg_search.proofs.Turns.{turned, turn_under, turn_at, turn_front}
 use Rattle.rbg_moves.specs.internal.Gathering.{Gathers, IsBeyond, IsLegalBy, IsSwitchAmong, IsSwitchOr, ListsSwitches}

@@ -7,7 +7,7 @@ use Rattle.std.proofs.lemmas.Cmp.{ranked, on_total, then_total, nat_cmp_total, l
 use Rattle.std.proofs.lemmas.List.Sorted.{sorted_far, ranks_by}
 use Rattle.std.proofs.lemmas.Map.Keys.{IsDistinct-IsPermutation}
 use Rattle.std.proofs.lemmas.Map.Made.{AllPairs-from_IsDistinct, IsDistinct-from_AllPairs}
-use Rattle.rbg_pairs.specs.Flat.{IsBefore}
+use Rattle.rbg_search.specs.Flat.{IsBefore}
 use Rattle.rbg_moves.specs.Listing.{IsMoveBefore}
 
 -- the order by which the program sorts

@@ -4,11 +4,11 @@ use Rattle.rbg_rules.specs.Meaning.{switch, IsNumbered, IsModifierAt, IsSwitchAt
 use Rattle.rbg_rules.proofs.MoveLemmas.{Applies_one}
 use Rattle.rbg_rules.proofs.PlaceLemmas.{RunPairs_join}
 use Rattle.rbg_rules.proofs.LocalityLemmas.{locality_law}
-use Rattle.rbg_pairs.proofs.Common.{IsNext, IsPositionOf}
+use Rattle.rbg_search.proofs.Along.{IsNext, IsPositionOf}
 use Rattle.rbg_moves.specs.internal.Stepping.{at_vertex, place_beyond, IsStep, IsValidAt, IsTried, IsMadeFrom, made, goes_on}
 use Rattle.rbg_search.specs.Passing.{GoesOn, trying}
-use Rattle.rbg_pairs.proofs.Starts.{action_position}
-use Rattle.rbg_pairs.proofs.Closures.{quiet_place}
+use Rattle.rbg_search.proofs.Starts.{action_position}
+use Rattle.rbg_search.proofs.Closures.{quiet_place}
 use Rattle.rbg_search.proofs.Afters.{run_stays}
 use Rattle.rbg_search.proofs.Openings.{CutRun, all_right, cut_next, cut_run, next_applies, next_here, quiet_pairs, quiet_switches}
 

@@ -1,7 +1,7 @@
 -- Which moves are listed, and in which order.
 use Rattle.std.specs.Prelude.{◌≡◌, ◌≢◌, ℕ, ◌≤◌, ◌⊎◌, List, [], ◌∷◌, length, All, AllPairs, Contains, Bool, true, false}
 use Rattle.rbg_rules.specs.Meaning.{AbstractGame, AbstractPlace, IsLegal}
-use Rattle.rbg_pairs.specs.Flat.{IsBefore}
+use Rattle.rbg_search.specs.Flat.{IsBefore}
 
 -- A move stands before another: the first pair in which they differ decides, by its vertex and then by its position;
 -- and the first part of a list stands before the whole of it.

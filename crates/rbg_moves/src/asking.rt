@@ -2,19 +2,18 @@
 ghost use Rattle.std.specs.Prelude.{◌≡◌, ◌≤◌, ◌↔◌, length, IsTrue};
 ghost use Rattle.rbg_base.specs.Move.{IsMoveLength};
 ghost use Rattle.rbg_rules.specs.Meaning.{IsGame, IsSwitchAt, point_of};
-ghost use Rattle.rbg_pairs.specs.Start.{start_of, IsPositionOf};
+ghost use Rattle.rbg_search.specs.Start.{start_of, IsPositionOf};
 ghost use Rattle.rbg_moves.specs.internal.Asking.{begun_in};
 ghost use Rattle.rbg_flat.specs.internal.Shown.{shows_switch};
 
 use rbg_auto::{Expr, Steps};
 use rbg_base::{Move, Pair, Position};
-use rbg_pairs::GameSteps;
 use rbg_rules::limits::{MAX_MODIFIERS, MAX_OPENINGS};
 use rbg_rules::{Action, Game};
-use rbg_search::{Budget, Buffers, Origin, Search};
+use rbg_search::{Budget, Buffers, GameSteps, Origin, Search};
 use std::alloc::Global;
 
-/// The game with the steps of its rules, by which searches go. They go by pairs.
+/// The game with the steps of its rules, by which searches go. They go step by step.
 pub(crate) fn rules_of<'a, S: Steps>(game: &'a Game, steps: &'a S) -> GameSteps<'a, S>
     requires { S.of_rules steps.now game.now.rules }
     ensures { result ≡ game.now }

@@ -11,9 +11,8 @@ use crate::walking::{Found, walk};
 use crate::workspace::Workspace;
 use rbg_auto::Steps;
 use rbg_base::{Move, MoveList, Pair};
-use rbg_pairs::GameSteps;
 use rbg_rules::Game;
-use rbg_search::Over;
+use rbg_search::{GameSteps, Over};
 use std::alloc::Global;
 use std::mem::replace;
 

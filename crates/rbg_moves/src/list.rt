@@ -13,9 +13,8 @@ use crate::walking::Found;
 use crate::workspace::Workspace;
 use rbg_auto::Steps;
 use rbg_base::{Memory, Move, MoveList};
-use rbg_pairs::GameSteps;
 use rbg_rules::Game;
-use rbg_search::Over;
+use rbg_search::{GameSteps, Over};
 use std::alloc::Global;
 
 /// The legal moves that were listed.

@@ -17,10 +17,9 @@ use arrayvec::ArrayVec;
 use rbg_auto::{Compact, Steps, compact};
 use rbg_base::{Memory, Move, Pair};
 use rbg_flat::Paths;
-use rbg_pairs::GameSteps;
 use rbg_rules::Game;
 use rbg_rules::limits::MAX_PLAYERS;
-use rbg_search::Over;
+use rbg_search::{GameSteps, Over};
 use std::alloc::Global;
 use std::marker::Model;
 
@@ -29,8 +28,8 @@ pub struct PlayedGame {
     alloc: Global,
     game: Game,
     automaton: Compact,
-    /// The leaps of the game; none where they would take too much memory.
-    paths: Option<Paths>,
+    /// How its flat parts are led on.
+    paths: Paths,
 }
 
 impl Model for PlayedGame {
@@ -44,13 +43,12 @@ impl Model for PlayedGame {
 
     ghost view = { λ played. played.game };
 
-    ghost use Rattle.std.specs.Prelude.{IfSome};
     ghost use Rattle.rbg_rules.specs.Meaning.{IsGame};
     ghost use Rattle.rbg_flat.specs.Paths.{ArePathsOf};
 
     ghost invariant = { λ played.
         IsGame played.game × ⟦<Compact as Steps>⟧.of_rules played.automaton played.game.rules
-        × IfSome played.paths (ArePathsOf played.game) };
+        × ArePathsOf played.game played.paths };
 }
 
 /// Written out, so that letting a game go is one call in the proofs of those who hold one, not a step for each part.
@@ -65,19 +63,8 @@ impl Drop for PlayedGame {
     }
 }
 
-/// The leaps of a game, where they are told.
-fn lent_paths(paths: &Option<Paths>) -> Option<&Paths>
-    ensures { (game : AbstractGame) → IfSome paths.now (ArePathsOf game)
-        → IfSome result (λ lent. ArePathsOf game lent.now) }
-{
-    match paths {
-        Some(lent) => Some(lent),
-        None => None,
-    }
-}
-
 impl PlayedGame {
-    /// Makes the automaton of a game, and its leaps where they don't take too much memory.
+    /// Makes the automaton of a game, and its paths.
     pub fn new(alloc: Global, game: Game) -> Result<PlayedGame, Memory>
         ensures { IfOk result (λ played. played ≡ game) }
     {
@@ -97,7 +84,7 @@ impl PlayedGame {
     fn rules(&self) -> GameSteps<'_, Compact>
         ensures { result ≡ self.now }
     {
-        GameSteps::new(&self.game, &self.automaton, lent_paths(&self.paths))
+        GameSteps::new(&self.game, &self.automaton, Some(&self.paths))
     }
 
     /// The game itself.

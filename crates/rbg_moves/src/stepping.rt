@@ -2,7 +2,7 @@
 ghost use Rattle.std.specs.Prelude.{◌≡◌, ℕ, ◌≤◌, not, IsTrue, IfOk, OnOk, Err, false};
 ghost use Rattle.rbg_rules.specs.Meaning.{IsStateOf, Applies, point_of, IsPlaceOf, reach, IsDeep, IsGame};
 ghost use Rattle.rbg_state.specs.History.{capacity_of, IsAfter};
-ghost use Rattle.rbg_pairs.specs.Flat.{IsNext};
+ghost use Rattle.rbg_search.specs.Flat.{IsNext};
 ghost use Rattle.rbg_search.specs.Counting.{CountsOpenings, IsOverBudget};
 ghost use Rattle.rbg_search.specs.Forced.{CountsForced};
 ghost use Rattle.rbg_search.specs.Taken.{CountsPairs};

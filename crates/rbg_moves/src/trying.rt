@@ -11,9 +11,8 @@ use crate::stepping::take;
 use crate::workspace::Workspace;
 use rbg_auto::Steps;
 use rbg_base::{Move, Pair, Position};
-use rbg_pairs::GameSteps;
 use rbg_rules::Game;
-use rbg_search::{Over, Search};
+use rbg_search::{GameSteps, Over, Search};
 use rbg_state::SemiState;
 use std::alloc::Global;
 

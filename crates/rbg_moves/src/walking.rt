@@ -2,7 +2,7 @@
 ghost use Rattle.std.specs.Prelude.{◌≡◌, ◌-◌, ◌<◌, ◌≤◌, ◌∷◌, [], ◌++◌, length, All, IfOk, Err, Some, false};
 ghost use Rattle.rbg_base.specs.Move.{most_pairs};
 ghost use Rattle.rbg_rules.specs.Meaning.{IsGame, point_of, IsPlaceOf, IsStateOf, after};
-ghost use Rattle.rbg_pairs.specs.Start.{IsPositionOf};
+ghost use Rattle.rbg_search.specs.Start.{IsPositionOf};
 ghost use Rattle.rbg_state.specs.History.{IsAfter};
 ghost use Rattle.rbg_moves.specs.internal.Asking.{question_of, IsGivenUp};
 ghost use Rattle.rbg_moves.specs.internal.Gathering.{AddsMove, IsWalked, ListsSwitches, LeavesOthers};

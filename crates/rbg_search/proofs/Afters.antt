@@ -2,12 +2,12 @@
 use Rattle.rbg_base.proofs.Common.{◌≡◌, ℕ, ◌<◌, ◌⊎◌, List, length, Bool, true, false, sym, ◌∙◌, subst, inl, inr, All, Contains, All-weaker, All-contains_itself}
 use Rattle.rbg_rules.specs.Meaning.{IsNumbered, Start, AbstractGame, AbstractState, IsStateOf, rest, step, Run, SomeWordRuns, IsGame}
 use Rattle.rbg_rules.proofs.StateLemmas.{state_law}
-use Rattle.rbg_pairs.proofs.Common.{IsNext, IsFlatPart, at_vertex, EndsFlat, RunsAfter, NestsFrom}
+use Rattle.rbg_search.proofs.Along.{IsNext, IsFlatPart, at_vertex, EndsFlat, RunsAfter, NestsFrom}
 use Rattle.rbg_search.specs.internal.Beyond.{IsReady, SomeRunsAfter}
-use Rattle.rbg_pairs.proofs.Closures.{next_found, found_next, some_word_runs, end_runs, after_runs, may_end_flat, flat_may_end}
-use Rattle.rbg_pairs.proofs.Starts.{action_position}
+use Rattle.rbg_search.proofs.Closures.{next_found, found_next, some_word_runs, end_runs, after_runs, may_end_flat, flat_may_end}
+use Rattle.rbg_search.proofs.Starts.{action_position}
 use Rattle.rbg_search.proofs.Openings.{next_applies, next_here}
-use Rattle.rbg_pairs.proofs.Nesting.{nests_onward}
+use Rattle.rbg_search.proofs.Nesting.{nests_onward}
 
 -- A run stays in the game.
 pub run_stays : (game : AbstractGame) → IsGame game → {w : List ℕ} {s t : AbstractState} → Run game w s t → IsStateOf game s → IsStateOf game t

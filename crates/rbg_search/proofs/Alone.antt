@@ -4,15 +4,15 @@ use Rattle.std.proofs.lemmas.Nat.{rows as products}
 use Rattle.rbg_rules.specs.Meaning.{Expression, IsNumbered, IsPatternAt, Start, Ends, AbstractGame, AbstractState}
 use Rattle.rbg_shifts.specs.Leaps.{IsShiftAt}
 use Rattle.rbg_auto.specs.Steps.{AreAllThatFollow}
-use Rattle.rbg_pairs.proofs.Common.{IsFlatPart, IsPositionOf, IsReached, MeetsAll, IsTrialAt, IsPart}
+use Rattle.rbg_search.proofs.Along.{IsFlatPart, IsPositionOf, IsReached, MeetsAll, IsTrialAt, IsPart}
 use Rattle.rbg_state.specs.declared.state.trials.Trial.TheVariants.{Modifies}
 use Rattle.rbg_flat.specs.Found.{HasCandidates}
-use Rattle.rbg_pairs.proofs.Plains.{plain_none, plain_more}
+use Rattle.rbg_search.proofs.Plains.{plain_none, plain_more}
 use Rattle.rbg_search.proofs.Asking.{no_modifier}
 use Rattle.rbg_search.proofs.Takings.{no_modifier_shift, part_pairs}
-use Rattle.rbg_pairs.proofs.Starts.{follower_position}
-use Rattle.rbg_pairs.proofs.Meetings.{meets_none, meets_one}
-use Rattle.rbg_pairs.proofs.Parts.{begin_part, modifier_part, all_met, whole_part}
+use Rattle.rbg_search.proofs.Starts.{follower_position}
+use Rattle.rbg_search.proofs.Meetings.{meets_none, meets_one}
+use Rattle.rbg_search.proofs.Parts.{begin_part, modifier_part, all_met, whole_part}
 
 pub none_there : (q : ℕ × ℕ) → ¬ Contains [] q
 none_there q (k, under, is) = absurd (omega (arith, under))

@@ -5,12 +5,12 @@ use Rattle.rbg_rules.proofs.PositionLemmas.{one_action_at}
 use Rattle.rbg_rules.proofs.MoveLemmas.{pattern_law}
 use Rattle.rbg_state.specs.History.{History, states_of, capacity_of, IsAfter}
 use Rattle.rbg_state.proofs.Histories.{no_shorter}
-use Rattle.rbg_pairs.proofs.Common.{IsFlatPart, at_vertex, IsReached, IsPositionOf, IsTrialAt, NestsFrom}
+use Rattle.rbg_search.proofs.Along.{IsFlatPart, at_vertex, IsReached, IsPositionOf, IsTrialAt, NestsFrom}
 use Rattle.rbg_search.specs.internal.Beyond.{IsReady, RunsAfterPair, SomeRunsAfter}
 use Rattle.rbg_state.specs.declared.state.trials.Trial.TheVariants.{Invalid, LeadsTo}
-use Rattle.rbg_pairs.proofs.Closures.{by_words}
-use Rattle.rbg_pairs.proofs.Starts.{action_position}
-use Rattle.rbg_pairs.proofs.Nesting.{nests_inside}
+use Rattle.rbg_search.proofs.Closures.{by_words}
+use Rattle.rbg_search.proofs.Starts.{action_position}
+use Rattle.rbg_search.proofs.Nesting.{nests_inside}
 use Rattle.rbg_search.proofs.Afters.{runs_at_end, runs_after, only_after}
 
 true_not_false : true ≡ false → ⊥

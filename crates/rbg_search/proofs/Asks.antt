@@ -6,9 +6,10 @@ use Rattle.rbg_search.proofs.Common.{IsAnswered, CountsForced, Searching, Counts
 use Rattle.rbg_search.proofs.Counted.{memory_not_deep, memory_not_wide, counted_as, ok_not_err}
 use Rattle.rbg_search.proofs.Asking.{room_twice}
 use Rattle.rbg_search.proofs.CountedSteps.{given_up, not_memory, deep_is, asks_reached, after_step, counted_there}
+use Rattle.rbg_search.proofs.Countings.{none_counted}
 use Rattle.rbg_search.proofs.Forcing.{all_counted, none_deep}
 use Rattle.rbg_search.proofs.Kept.{kept_twice}
-use Rattle.rbg_search.proofs.Takings.{takes_as, takes_part_of, any_part, not_ok, is_answer, held_on, ok_held}
+use Rattle.rbg_search.proofs.Takings.{takes_as, takes_none_yet, takes_part_of, any_part, not_ok, is_answer, held_on, ok_held}
 use Rattle.rbg_search.proofs.TakingSteps.{after_takes}
 
 module _ {X Y : Type 0} {h k : Searching} {s l : History} {question : Question} {here : AbstractState} {f : Start} {left : ℕ} {callee : Result X Over} (is : IsAsked h k s l question here f left callee) where
@@ -146,3 +147,26 @@ asked_since {k = k} {s = s} {l = l} {f = f} {r = r} same is = subst (λ (x : Sea
 
 pub found_since : {h h' k : Searching} {s l : History} {f : Start} {nested : ℕ} {pairs : List (ℕ × ℕ)} {ends : Bool} → h' ≡ h → HasFound h' k s l f nested pairs ends → HasFound h k s l f nested pairs ends
 found_since {k = k} {s = s} {l = l} {f = f} {nested = nested} {pairs = pairs} {ends = ends} same is = subst (λ (x : Searching). HasFound x k s l f nested pairs ends) same is
+
+pub asked_before : {X : Type 0} {h h' k : Searching} {s l : History} {question : Question} {here : AbstractState} {f : Start} {r : Result X Over} → h' ≡ h → IsAsked h' k s l question here f h'.modifiers r → IsAsked h k s l question here f h.modifiers r
+asked_before {k = k} {s = s} {l = l} {question = question} {here = here} {f = f} {r = r} same is = subst (λ (x : Searching). IsAsked x k s l question here f x.modifiers r) same is
+
+pub found_same : {h k : Searching} {s l : History} {f : Start} {nested : ℕ} {pairs : List (ℕ × ℕ)} {ends : Bool} → HasFound h k s l f nested pairs ends → (k' : Searching) → k' ≡ k → HasFound h k' s l f nested pairs ends
+found_same {h = h} {s = s} {l = l} {f = f} {nested = nested} {pairs = pairs} {ends = ends} is k' same = subst (λ (x : Searching). HasFound h x s l f nested pairs ends) (sym same) is
+
+-- There was no memory to begin, so nothing was asked.
+pub nothing_asked : {Y : Type 0} (h k : Searching) (s : History) (question : Question) (here : AbstractState) (f : Start) (left : ℕ) (r : Result Y Over) (e : Over) → k ≡ h → IsErrAnd r (λ y. y ≡ e) → e ≡ Memory → IsAsked h k s s question here f left r
+nothing_asked h k s question here f left r e same gives memory = asked_same none k same
+  where
+    none : IsAsked h h s s question here f left r
+    none = record {
+      kept = refl;
+      given_back = refl;
+      room = omega arith;
+      counts = record {
+        counted = none_counted h.game question here f h.opened h.opened refl;
+        deep = λ d. absurd (not_memory r e Deep gives memory memory_not_deep d);
+        wide = λ w. absurd (not_memory r e Wide gives memory memory_not_wide w);
+      };
+      taken = takes_none_yet h.game question here f h.opened h.opened h.taken h.taken (IsOk r) refl refl;
+    }

@@ -2,14 +2,14 @@
 use Rattle.rbg_base.proofs.Common.{◌≡◌, ℕ, ◌⊎◌, inl, inr, List, [], ◌∷◌, ◌++◌, Bool, sym, subst, arith, Contains, IsTrue, ◌↔◌, Contains-append_left, Contains-push, Contains-push_cases}
 use Rattle.rbg_rules.specs.Meaning.{IsNumbered, IsPatternAt, Start, AbstractGame, AbstractState, Applies}
 use Rattle.rbg_flat.specs.declared.flat.Flat.{Flat}
-use Rattle.rbg_flat.proofs.Common.{IsCandidate, MayEnd, Holds, IsMarked, IsOpen, IsDone, KeepsDone}
+use Rattle.rbg_flat.proofs.Common.{Way, IsCandidate, MayEnd, Holds, IsMarked, IsOpen, IsDone, KeepsDone}
 use Rattle.rbg_flat.specs.Found.{IsFound as IsFoundBySets, AreFound}
-use Rattle.rbg_flat.proofs.ChainLemmas.{candidate_of, met_of}
+use Rattle.rbg_flat.proofs.ChainLemmas.{candidate_part, met_of, part_candidate, part_of, stays_there}
 use Rattle.rbg_flat.proofs.Steps.{all_marked}
-use Rattle.rbg_pairs.proofs.Common.{IsNext, IsFlatPart, at_vertex, IsReached}
+use Rattle.rbg_search.proofs.Along.{IsNext, IsFlatPart, at_vertex, IsReached}
 use Rattle.rbg_search.specs.internal.BySets.{IsBegunBySets, IsWhole, AreAsked, IsToBeAsked}
 use Rattle.rbg_search.proofs.Asking.{no_modifier}
-use Rattle.rbg_pairs.proofs.Closures.{found_next, next_found}
+use Rattle.rbg_search.proofs.Closures.{found_next, next_found}
 use Rattle.rbg_search.proofs.Takings.{is_candidate, is_reached, no_shift, no_modifier_shift}
 
 pub nothing_in : (x : ℕ × ℕ) → ¬ Contains [] x
@@ -38,21 +38,22 @@ module _ (game : AbstractGame) (numbered : IsNumbered game.rules) (s : AbstractS
           }
 
   -- What is to be asked is reached.
-  pub asked_reached : (flat : Flat) (v p : ℕ) → IsBegunBySets game s f flat → IsToBeAsked game flat v p → IsReached game s f v p
-  asked_reached flat v p begun next = is_reached game numbered s f v p (candidate_of game numbered s f v p (begun.begun.sound v p next.marked))
+  pub asked_reached : (way : Way) (flat : Flat) (v p : ℕ) → IsBegunBySets way game s f flat → IsToBeAsked game flat v p → IsReached game s f v p
+  asked_reached way flat v p begun next =
+      is_reached game numbered s f v p (part_candidate way game s f v p (no_shift game.rules numbered p next.pattern) (part_of way game numbered s f v p (begun.begun.sound v p next.marked)))
 
   -- Where nothing is left, each pattern that is reached was asked.
-  pub all_asked : (flat : Flat) (pairs : List (ℕ × ℕ)) → IsBegunBySets game s f flat → IsWhole flat → AreAsked game flat pairs → (v p : ℕ) → IsReached game s f v p → IsPatternAt game.rules p → Contains pairs (v, p)
-  all_asked flat pairs begun whole asked v p reached pattern =
+  pub all_asked : (way : Way) (flat : Flat) (pairs : List (ℕ × ℕ)) → IsBegunBySets way game s f flat → IsWhole flat → AreAsked game flat pairs → (v p : ℕ) → IsReached game s f v p → IsPatternAt game.rules p → Contains pairs (v, p)
+  all_asked way flat pairs begun whole asked v p reached pattern =
       let candidate : IsCandidate game s f v p = is_candidate game numbered s f v p reached (no_shift game.rules numbered p pattern) in
-      let marked : IsMarked flat.sets v p = all_marked game s f (IsMarked flat.sets) (IsOpen flat.sets) flat.ends begun.begun whole.closed v p (met_of game numbered s f v p candidate) in
+      let marked : IsMarked flat.sets v p = all_marked way game s f (IsMarked flat.sets) (IsOpen flat.sets) flat.ends begun.begun whole.closed v p (met_of way game numbered s f v p (candidate_part way game s f v p candidate)) in
       asked.all v p pattern (record { marked = marked; closed = whole.closed v p })
 
 -- A pattern that is valid holds.
 pub pattern_holds : (game : AbstractGame) → IsNumbered game.rules → (s : AbstractState) (v p : ℕ) (valid : Bool) → IsPatternAt game.rules p → IsTrue valid ↔ Applies game p (at_vertex s v) (at_vertex s v) → IsTrue valid ↔ Holds game s v p
 pattern_holds game numbered s v p valid pattern decides = (
-  (λ yes. record { quiet = no_modifier game.rules numbered p pattern; plain = no_shift game.rules numbered p pattern; applies = decides.0 yes }),
-  (λ holds. decides.1 holds.applies),
+  (λ yes. record { to = v; quiet = no_modifier game.rules numbered p pattern; applies = decides.0 yes }),
+  (λ holds. decides.1 (stays_there game numbered s v p (no_shift game.rules numbered p pattern) holds)),
 )
 
 -- Nothing was asked.

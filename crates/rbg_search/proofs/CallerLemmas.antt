@@ -6,7 +6,7 @@ use Rattle.rbg_rules.proofs.PlaceLemmas.{RunPairs-Runs}
 use Rattle.rbg_rules.proofs.TableLemmas.{numbered_action}
 use Rattle.rbg_rules.proofs.TrimLemmas.{empty_opening_law}
 use Rattle.rbg_flat.specs.Candidates.{MayEnd}
-use Rattle.rbg_pairs.specs.Flat.{IsNext, IsFlatPart}
+use Rattle.rbg_search.specs.Flat.{IsNext, IsFlatPart}
 use Rattle.rbg_search.proofs.Common.{CountsOpenings, IsOverBudget, GoesOn, CountsUpTo, HasRow, IsTooDeep, from_here, somewhere}
 use Rattle.rbg_search.proofs.Openings.{switch_modifies, none_left, lifted, reach_opens}
 use Rattle.rbg_search.proofs.Counts.{begin_joined, more_joined, counts_such, over_such, weaker, begins_more, all_pairs_take}

@@ -3,7 +3,7 @@ use Rattle.rbg_base.proofs.Common.{◌≡◌, ◌≢◌, ℕ, suc, ◌+◌, ◌<
 use Rattle.rbg_rules.specs.Meaning.{IsNumbered, IsPatternAt, inside, Start, beginning, after, AbstractGame, AbstractState, Applies, IsGame, Question, try_move, reach, pattern, Item, Opening, IsStart}
 use Rattle.rbg_state.specs.History.{History}
 use Rattle.rbg_search.proofs.Common.{Searching, CountsOpenings, IsOverBudget, GoesOn, CountsUpTo, somewhere, StandsInPattern, CountsAsked, GoesAfter, IsCounted, Over, Deep, Wide, Memory}
-use Rattle.rbg_pairs.proofs.Common.{IsNext, IsFlatPart, at_vertex, IsReached}
+use Rattle.rbg_search.proofs.Along.{IsNext, IsFlatPart, at_vertex, IsReached}
 use Rattle.rbg_search.proofs.Patterns.{inside_onward, inside_start}
 use Rattle.rbg_search.proofs.CallerLemmas.{pattern_begins, counts_begin, counts_taken, counts_end, over_taken, deep_more, too_deep}
 use Rattle.rbg_search.proofs.Countings.{empty_opens, asked_more, asked_end, over_asked, deep_asked, goes_after, one_too_deep}

@@ -1,10 +1,9 @@
 -- Each step of a search that asks, by what it began with.
-use Rattle.rbg_base.proofs.Common.{◌≡◌, ◌≢◌, ℕ, suc, ◌+◌, ◌-◌, ◌<◌, ◌≤◌, List, [], ◌∷◌, ◌++◌, length, get_or, take, Bool, false, sym, ap, ◌∙◌, subst, arith, All, Contains, Some, slice_get, Result, Ok, Err, IsErrAnd, get_or_default, All-contains, slice_get_within, get_or_from_slice_get}
+use Rattle.rbg_base.proofs.Common.{◌≡◌, ◌≢◌, ℕ, suc, ◌+◌, ◌-◌, ◌<◌, ◌≤◌, List, [], ◌∷◌, ◌++◌, length, get_or, take, Bool, false, sym, ap, ◌∙◌, subst, arith, All, Contains, Result, Ok, Err, IsErrAnd, get_or_default}
 use Rattle.rbg_rules.specs.Meaning.{IsPatternAt, inside, Start, beginning, after, AbstractGame, AbstractState, Applies, IsGame, Question, reach, pattern, IsDeep}
 use Rattle.rbg_state.specs.History.{History}
-use Rattle.rbg_pairs.proofs.Common.{IsFlatPart, at_vertex, IsReached}
-use Rattle.rbg_search.proofs.Common.{Searching, CountsOpenings, IsOverBudget, CountsUpTo, IsTooDeep, from_here, somewhere, IsBegun, StandsInPattern, CountsAsked, GoesAfter, IsCounted, Over, Memory}
-use Rattle.rbg_pairs.specs.declared.flat.Flat.{Flat}
+use Rattle.rbg_search.proofs.Along.{IsFlatPart, at_vertex, IsReached}
+use Rattle.rbg_search.proofs.Common.{Searching, CountsOpenings, IsOverBudget, CountsUpTo, IsTooDeep, from_here, somewhere, StandsInPattern, CountsAsked, GoesAfter, IsCounted, Over, Memory}
 use Rattle.rbg_search.proofs.CallerLemmas.{pattern_begins}
 use Rattle.rbg_search.proofs.Openings.{reach_opens}
 use Rattle.rbg_search.proofs.Counts.{begin_joined, counts_such, over_such}
@@ -26,12 +25,6 @@ pub not_memory : {X : Type 0} (r : Result X Over) (e e' : Over) → IsErrAnd r (
 not_memory r e e' is memory other back = other (sym memory ∙ returned_is r e e' is back)
 
 -- ---- a flat part
-
-pub taken_reached : (game : AbstractGame) (s : AbstractState) (f : Start) (flat : Flat) (v p : ℕ) → IsBegun game s f flat → slice_get flat.queue.pairs flat.taken ≡ Some (v, p) → IsReached game s f v p
-taken_reached game s f flat v p begun at =
-    let pairs = flat.queue.pairs in
-    let there : Contains pairs (v, p) = (flat.taken, slice_get_within pairs flat.taken (v, p) at, get_or_from_slice_get pairs flat.taken (v, p) (v, p) at) in
-    All-contains (λ q. IsReached game s f q.0 q.1) pairs (v, p) begun.part.sound there
 
 -- A pattern was asked in a flat part.
 pub record AskStep (h : Searching) (s : AbstractState) (f : Start) (done : List (ℕ × ℕ)) (a b : ℕ) (D W : Type 0) : Type 0 where

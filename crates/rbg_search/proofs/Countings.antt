@@ -3,7 +3,7 @@ use Rattle.rbg_base.proofs.Common.{◌≡◌, ◌≢◌, ℕ, zero, suc, ◌+◌
 use Rattle.std.proofs.lemmas.List.Kept.{AllPairs-cons}
 use Rattle.rbg_rules.specs.Meaning.{IsNumbered, IsPatternAt, inside, Start, beginning, after, AbstractGame, AbstractState, Applies, IsGame, Question, try_move, reach, pattern, Item, modifier_at, pattern_at, items_of, Opening, HasOpenings, IsDeep, IsStart}
 use Rattle.rbg_rules.proofs.TrimLemmas.{empty_opening_law}
-use Rattle.rbg_pairs.proofs.Common.{IsNext, at_vertex, IsReached}
+use Rattle.rbg_search.proofs.Along.{IsNext, at_vertex, IsReached}
 use Rattle.rbg_search.proofs.Common.{CountsOpenings, IsOverBudget, asking, GoesOn, IsTooDeep, from_here, StandsInPattern, BeginsAsked, CountsAsked, GoesAfter}
 use Rattle.rbg_search.proofs.Openings.{in_pattern}
 use Rattle.rbg_search.proofs.Counts.{counts_such, joined, over_such, weaker}

@@ -3,7 +3,7 @@ use Rattle.rbg_base.proofs.Common.{◌≡◌, ◌≢◌, ℕ, suc, ◌+◌, ◌<
 use Rattle.std.proofs.lemmas.List.{length-append, length-map, length-take, get_or-take}
 use Rattle.std.proofs.lemmas.List.Kept.{AllPairs-cons}
 use Rattle.rbg_rules.specs.Meaning.{IsNumbered, IsSwitchAt, Start, after, AbstractGame, AbstractState, Applies, Question, reach, Item, modifier_at, pattern_at, items_of, GoesTo, Opening, at, beyond, HasOpenings}
-use Rattle.rbg_pairs.proofs.Common.{IsNext, at_vertex}
+use Rattle.rbg_search.proofs.Along.{IsNext, at_vertex}
 use Rattle.rbg_search.proofs.Common.{CountsOpenings, IsOverBudget, Passes, BeginsAmong, CountsBeginning, CountsUpTo}
 use Rattle.rbg_search.proofs.Openings.{lifted, reach_opens}
 

@@ -1,19 +1,18 @@
 -- A search that finds a flat part, step by step.
-use Rattle.std.proofs.Common.{◌≡◌, ℕ, suc, ◌+◌, ◌<◌, ◌≤◌, length, List, [], ◌∷◌, ◌++◌, Bool, take, refl, sym, ap, ◌∙◌, subst, arith, Contains, Result, Ok, Err, IsOk, IsErrAnd, Some, slice_get, IsTrue, ◌↔◌}
-use Rattle.rbg_rules.specs.Meaning.{IsGame, IsStart, IsPatternAt, inside, IsStateOf, Start, beginning, Applies, reach, pattern}
+use Rattle.std.proofs.Common.{◌≡◌, ℕ, suc, ◌+◌, ◌<◌, ◌≤◌, length, List, [], ◌∷◌, ◌++◌, Bool, sym, ap, ◌∙◌, subst, arith, Contains, Result, Ok, Err, IsOk, IsErrAnd}
+use Rattle.rbg_rules.specs.Meaning.{IsGame, IsStart, IsPatternAt, inside, IsStateOf, Start, beginning, reach, pattern}
 use Rattle.rbg_state.specs.History.{History}
-use Rattle.rbg_pairs.proofs.Common.{at_vertex, IsReached, IsMetPart, NestsFrom}
-use Rattle.rbg_pairs.specs.declared.flat.Flat.{Flat}
-use Rattle.rbg_search.proofs.Common.{CountsForced, Searching, HasPart, CountsTaken, most_pairs_of, IsCounted, IsAsked, IsBegun, Finds, FindsByPairs, IsSpent, IsSpentButOne, AreMany, CountsPart, Over, Deep, Wide, Memory}
+use Rattle.rbg_search.proofs.Along.{at_vertex, IsReached, NestsFrom}
+use Rattle.rbg_search.proofs.Common.{CountsForced, Searching, HasPart, CountsTaken, IsCounted, IsAsked, Finds, IsSpent, IsSpentButOne, Over, Deep, Wide, Memory}
 use Rattle.rbg_search.proofs.Asking.{room_twice, reached_nests, some_nested}
-use Rattle.rbg_search.proofs.Counted.{memory_not_deep, memory_not_wide, counted_as, asked_only, onward_search, search_before}
-use Rattle.rbg_search.proofs.CountedSteps.{AskStep, ask_step_at, given_up, not_memory, taken_reached}
+use Rattle.rbg_search.proofs.Counted.{memory_not_deep, memory_not_wide, counted_as, asked_only, onward_search}
+use Rattle.rbg_search.proofs.CountedSteps.{AskStep, ask_step_at, given_up, not_memory}
 use Rattle.rbg_search.proofs.Countings.{asked_begin, asked_weaker}
 use Rattle.rbg_search.proofs.Forcing.{asks_begin, asks_end, asks_still}
 use Rattle.rbg_search.proofs.ForcingSteps.{ask_forced}
 use Rattle.rbg_search.proofs.Kept.{onward, onward_rules, rules_before, kept_same, kept_twice}
-use Rattle.rbg_search.proofs.Takings.{takes_none_yet, takes_own, takes_as, room_for_own, nothing_met, reached_met, own_part, not_ok, is_answer, held_on, ok_held, not_held}
-use Rattle.rbg_search.proofs.TakingSteps.{asked_takes_at, met_takes, all_done}
+use Rattle.rbg_search.proofs.Takings.{takes_none_yet, takes_own, takes_as, room_for_own, nothing_met, own_part, not_ok, is_answer, held_on, ok_held, not_held}
+use Rattle.rbg_search.proofs.TakingSteps.{asked_takes_at}
 
 -- One opening is taken up, and nothing is done.
 pub finds_none : (h e k : Searching) (s l : History) (f : Start) → IsGame h.game → IsStart h.game.rules f → e ≡ record h { opened = e.opened; taken = e.taken } → k ≡ e → l ≡ record s { room = l.room } → s.room ≤ l.room → 2 ≤ l.room → e.opened ≡ h.opened + 1 → e.taken ≡ h.taken → IsSpent h.game h.opened h.taken → Finds h k s l f []
@@ -147,94 +146,3 @@ module _ {h k : Searching} {s l : History} {f : Start} {done : List (ℕ × ℕ)
         finds_dropped r e gives memory 0
         (own_part h.game reach s.state f 0 (nothing_met h.game s.state f (IsOk r) (¬ (r ≡ Err Memory)) (not_ok r e gives) (not_held r e gives memory)))
         (omega (arith, none))
-
--- ---- by pairs
-
--- It is begun.
-pub pairs_begun : {h k : Searching} {s l : History} {f : Start} (flat : Flat) → Finds h k s l f [] → flat.taken ≡ 0 → IsBegun h.game s.state f flat → FindsByPairs h k s l f flat
-pairs_begun {h = h} {k = k} {s = s} {l = l} {f = f} flat is none begun = record { finds = subst (λ (n : ℕ). Finds h k s l f (take n flat.queue.pairs)) (sym none) is; begun = begun }
-
-module _ {h k : Searching} {s l : History} {f : Start} {flat : Flat} (is : FindsByPairs h k s l f flat) (flat' : Flat) where
-  pub begun_now : IsBegun k.game l.state f flat
-  begun_now = onward_search (λ y z. IsBegun y.game z f flat) h k s l is.finds.kept is.finds.given_back is.begun
-
-  -- It goes on, and nothing is asked.
-  pub pairs_on : (IsBegun k.game l.state f flat → IsBegun k.game l.state f flat') → ((x : ℕ × ℕ) → Contains (take flat.taken flat.queue.pairs) x → Contains (take flat'.taken flat'.queue.pairs) x) → ((w q : ℕ) → Contains (take flat'.taken flat'.queue.pairs) (w, q) → IsPatternAt k.game.rules q → Contains (take flat.taken flat.queue.pairs) (w, q)) → FindsByPairs h k s l f flat'
-  pairs_on begun still quiet = record {
-    finds =
-        finds_quiet is.finds (take flat'.taken flat'.queue.pairs) still
-        (search_before (λ y z. (w q : ℕ) → Contains (take flat'.taken flat'.queue.pairs) (w, q) → IsPatternAt y.game.rules q → Contains (take flat.taken flat.queue.pairs) (w, q)) h k s l is.finds.kept is.finds.given_back quiet);
-    begun = search_before (λ y z. IsBegun y.game z f flat') h k s l is.finds.kept is.finds.given_back (begun begun_now);
-  }
-
--- What was met so far.
-pub begun_part : {h k : Searching} {s l : History} {f : Start} {flat : Flat} → FindsByPairs h k s l f flat → (A H : Type 0) (pairs : List (ℕ × ℕ)) → pairs ≡ flat.queue.pairs → (many : ℕ) → AreMany pairs many → many ≤ most_pairs_of h.game → ¬ A → HasPart h.game reach s.state f A H many
-begun_part {h = h} {s = s} {f = f} {flat = flat} is A H pairs same many are few none =
-    own_part h.game reach s.state f many
-    (reached_met h.game is.finds.lawful.numbered s.state f A H flat.queue.pairs many (record { sound = is.begun.part.sound; begun = is.begun.part.begun }) (subst (λ (ps : List (ℕ × ℕ)). AreMany ps many) same are) few (λ answered. absurd (none answered)))
-
--- There was no memory to go on.
-pub pairs_stopped : {Y : Type 0} {h k : Searching} {s l : History} {f : Start} {flat : Flat} → FindsByPairs h k s l f flat → (pairs : List (ℕ × ℕ)) → IsMetPart k.game l.state f pairs → (r : Result Y Over) (e : Over) → IsErrAnd r (λ y. y ≡ e) → e ≡ Memory → (last : Searching) → last ≡ record k { opened = last.opened; taken = last.taken } → last.opened ≡ k.opened → CountsPart k.game (AreMany pairs) k.taken last.taken → IsAsked h last s l reach s.state f h.modifiers r
-pairs_stopped {h = h} {k = k} {s = s} {l = l} {f = f} is pairs met r e gives memory last kept same counts =
-    finds_dropped is.finds last kept same r e gives memory counts.many
-    (met_takes h k s l f (IsOk r) (¬ (r ≡ Err Memory)) pairs counts.many is.finds.kept is.finds.given_back is.finds.lawful met counts.has counts.few (λ ok. absurd (not_ok r e gives ok))) counts.sum
-
--- The pair that is next is at a pattern, and isn't done.
-pub record IsNextPair (k : Searching) (flat : Flat) (v p : ℕ) : Type 0 where
-  pub at : slice_get flat.queue.pairs flat.taken ≡ Some (v, p)
-  pub vertex : v < length k.game.board.first
-  pub pattern : IsPatternAt k.game.rules p
-  pub fresh : ¬ Contains (take flat.taken flat.queue.pairs) (v, p)
-
--- It is asked about the pattern.
-module _ {h k : Searching} {s l : History} {f : Start} {flat : Flat} (is : FindsByPairs h k s l f flat) (v p : ℕ) (next : IsNextPair k flat v p) where
-  there_here : IsPatternAt h.game.rules p
-  there_here = search_before (λ y z. IsPatternAt y.game.rules p) h k s l is.finds.kept is.finds.given_back next.pattern
-
-  pub reached_next : IsReached h.game s.state f v p
-  reached_next = taken_reached h.game s.state f flat v p is.begun next.at
-
-  module _ {X : Type 0} {k' : Searching} {l' : History} {callee : Result X Over} (asked : IsAsked k k' l l' pattern (at_vertex l.state v) (beginning (inside p)) k.modifiers callee) where
-    pub pairs_left : IsSpentButOne k'.game k'.opened k'.taken
-    pairs_left = finds_left is.finds v p reached_next there_here next.fresh asked
-
-    pub pairs_lost : {Y : Type 0} (r : Result Y Over) (e : Over) → callee ≡ Err e → IsErrAnd r (λ y. y ≡ e) → (last : Searching) → last ≡ record k' { opened = last.opened; taken = last.taken } → last.opened ≡ k'.opened → CountsPart k'.game (AreMany flat.queue.pairs) k'.taken last.taken → IsAsked h last s l' reach s.state f h.modifiers r
-    pairs_lost r e was gives last kept same counts =
-        finds_lost is.finds v p reached_next there_here next.fresh asked r e was gives last kept same counts.many
-        (begun_part is (IsOk r) (¬ (r ≡ Err Memory)) flat.queue.pairs refl counts.many counts.has
-        (rules_before (λ x. counts.many ≤ most_pairs_of x) h k' (kept_twice h k k' is.finds.kept asked.kept) counts.few) (not_ok r e gives)) counts.sum
-
-    module _ (x : X) (was : callee ≡ Ok x) (forced : (cut : Bool) → CountsForced k.game cut pattern (at_vertex l.state v) (beginning (inside p)) k.opened k'.opened k.modifiers k.modifiers) where
-      pub pairs_asked : Finds h k' s l' f (take flat.taken flat.queue.pairs ++ (v, p) ∷ [])
-      pairs_asked = finds_more is.finds v p reached_next there_here next.fresh asked x was forced
-
-      -- There was no memory to take it.
-      pub pairs_dropped : {Y : Type 0} (r : Result Y Over) (e : Over) → IsErrAnd r (λ y. y ≡ e) → e ≡ Memory → (pairs : List (ℕ × ℕ)) → pairs ≡ flat.queue.pairs → (last : Searching) → last ≡ record k' { opened = last.opened; taken = last.taken } → last.opened ≡ k'.opened → CountsPart k'.game (AreMany pairs) k'.taken last.taken → IsAsked h last s l' reach s.state f h.modifiers r
-      pairs_dropped r e gives memory pairs same_pairs last kept same counts =
-          finds_dropped pairs_asked last kept same r e gives memory counts.many
-          (begun_part is (IsOk r) (¬ (r ≡ Err Memory)) pairs same_pairs counts.many counts.has
-          (rules_before (λ x. counts.many ≤ most_pairs_of x) h k' (kept_twice h k k' is.finds.kept asked.kept) counts.few) (not_ok r e gives)) counts.sum
-
-      pub pairs_more : (flat' : Flat) (valid : Bool) → IsTrue valid ↔ Applies k.game p (at_vertex l.state v) (at_vertex l.state v) → take flat'.taken flat'.queue.pairs ≡ take flat.taken flat.queue.pairs ++ (v, p) ∷ [] → (IsTrue valid ↔ Applies k'.game p (at_vertex l.state v) (at_vertex l.state v) → IsBegun k'.game l.state f flat → IsBegun k'.game l.state f flat') → FindsByPairs h k' s l' f flat'
-      pairs_more flat' valid decides done begun =
-          let kept = kept_twice h k k' is.finds.kept asked.kept in
-          let decides_now = subst (λ (y : Searching). IsTrue valid ↔ Applies y.game p (at_vertex l.state v) (at_vertex l.state v)) (sym asked.kept) decides in
-          let begun_then : IsBegun k'.game l.state f flat = onward_search (λ y z. IsBegun y.game z f flat) h k' s l kept is.finds.given_back is.begun in
-          record {
-            finds = subst (λ (ds : List (ℕ × ℕ)). Finds h k' s l' f ds) (sym done) pairs_asked;
-            begun = search_before (λ y z. IsBegun y.game z f flat') h k' s l kept is.finds.given_back (begun decides_now begun_then);
-          }
-
--- Nothing is left.
-module _ {h k : Searching} {s l : History} {f : Start} {flat : Flat} (is : FindsByPairs h k s l f flat) (met : (v p : ℕ) → IsReached k.game l.state f v p → Contains (take flat.taken flat.queue.pairs) (v, p)) where
-  pub pairs_forced : (b : ℕ) → b ≡ k.opened → (cut : Bool) (left : ℕ) → CountsForced h.game cut reach s.state f h.opened b left h.modifiers
-  pairs_forced =
-      finds_forced is.finds
-      (λ v p reached _. search_before (λ y z. (v p : ℕ) → IsReached y.game z f v p → Contains (take flat.taken flat.queue.pairs) (v, p)) h k s l is.finds.kept is.finds.given_back met v p reached)
-
-  pub pairs_own : (k' : Searching) → k' ≡ record k { opened = k'.opened; taken = k'.taken } → k'.opened ≡ k.opened → (A H : Type 0) → CountsPart k.game (AreMany flat.queue.pairs) k.taken k'.taken → CountsTaken h.game reach s.state f h.opened k'.opened h.taken k'.taken A H
-  pairs_own k' kept same A H counts =
-      finds_own is.finds k' kept same A H counts.many
-      (met_takes h k s l f A H flat.queue.pairs counts.many is.finds.kept is.finds.given_back is.finds.lawful
-      (onward_search (λ y z. IsMetPart y.game z f flat.queue.pairs) h k s l is.finds.kept is.finds.given_back (record { sound = is.begun.part.sound; begun = is.begun.part.begun })) counts.has counts.few
-      (λ _. all_done flat (λ v p. IsReached k.game l.state f v p) met)) counts.sum

@@ -5,10 +5,10 @@ use Rattle.rbg_base.proofs.CallerLemmas.{Contains-map}
 use Rattle.rbg_rules.specs.Meaning.{IsNumbered, IsSwitchAt, IsPatternAt, inside, Start, beginning, after, AbstractGame, AbstractState, Applies, Question, reach, pattern, Item, modifier_at, pattern_at, items_of, SomeWordRuns, GoesTo, IsForcedTo, Forced, at, beyond, HasForced, IsForcedDeep}
 use Rattle.rbg_rules.proofs.PlaceLemmas.{RunPairs-Runs}
 use Rattle.rbg_rules.proofs.MoveLemmas.{Applies_one}
-use Rattle.rbg_pairs.proofs.Common.{IsNext, IsFlatPart, at_vertex, IsReached}
+use Rattle.rbg_search.proofs.Along.{IsNext, IsFlatPart, at_vertex, IsReached}
 use Rattle.rbg_search.proofs.Common.{HasFewInRow, CountsForced, TakesAfter, AsksForced}
 use Rattle.rbg_flat.proofs.Lists.{no_longer}
-use Rattle.rbg_pairs.proofs.Closures.{reached, ends_at, next_found, after_runs}
+use Rattle.rbg_search.proofs.Closures.{reached, ends_at, next_found, after_runs}
 use Rattle.rbg_search.proofs.Openings.{cut_follows, goes_through, none_left}
 
 -- ---- what a list that holds all says of the count, and of rows

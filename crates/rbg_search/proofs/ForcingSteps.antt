@@ -2,7 +2,7 @@
 use Rattle.std.proofs.Common.{◌≡◌, ℕ, ◌+◌, ◌-◌, ◌<◌, ◌≤◌, List, ◌∷◌, [], ◌++◌, length, get_or, take, Bool, true, false, refl, arith, Contains, IsTrue, ◌↔◌}
 use Rattle.rbg_rules.specs.Meaning.{IsNumbered, IsPatternAt, inside, Start, beginning, after, AbstractGame, AbstractState, Applies, SomeWordRuns, reach, pattern}
 use Rattle.rbg_state.specs.History.{History}
-use Rattle.rbg_pairs.proofs.Common.{IsFlatPart, at_vertex}
+use Rattle.rbg_search.proofs.Along.{IsFlatPart, at_vertex}
 use Rattle.rbg_search.proofs.Common.{CountsForced, TakesAfter, Searching, AsksForced, RanAfter}
 use Rattle.rbg_search.proofs.Counted.{onward_search, search_before}
 use Rattle.rbg_search.proofs.Forcing.{asks_more, takes_on, word_forced, no_word_forced}

@@ -1,5 +1,14 @@
 -- Lemmas, by topic.
 pub mod Common
+pub mod Along
+pub mod Closures
+pub mod Meetings
+pub mod Starts
+pub mod Parts
+pub mod Modifiers
+pub mod Glances
+pub mod Nesting
+pub mod Plains
 pub mod Afters
 pub mod Asking
 pub mod Alone

@@ -1,10 +1,10 @@
 -- One modifier that comes next alone, where one opening is taken up for it.
-use Rattle.rbg_base.proofs.Common.{◌≡◌, ℕ, suc, ◌+◌, ◌-◌, ◌*◌, ◌^◌, ◌<◌, ◌≤◌, [], ◌∷◌, length, sym, arith, Bool, false, true, Decides, All-nil, All-push, refl, Result, Ok, Err, IsOk, mul-le}
-use Rattle.rbg_rules.specs.Meaning.{positions_of, IsModifierAt, IsNumbered, IsGame, IsStart, IsWithinLimits, Applies, Start, after, Ends, reach, AbstractGame, AbstractState, IsStateOf}
+use Rattle.rbg_base.proofs.Common.{◌≡◌, ℕ, ◌+◌, ◌-◌, ◌*◌, ◌^◌, ◌<◌, ◌≤◌, [], ◌∷◌, length, arith, Bool, false, true, Decides, All-nil, All-push, refl, Result, Ok, Err, IsOk, mul-le}
+use Rattle.rbg_rules.specs.Meaning.{positions_of, IsModifierAt, IsNumbered, IsGame, IsStart, IsWithinLimits, Applies, Start, after, Ends, reach, AbstractState, IsStateOf}
 use Rattle.rbg_auto.specs.Steps.{AreAllThatFollow}
 use Rattle.rbg_state.specs.History.{History}
 use Rattle.rbg_search.proofs.Common.{Searching, most_pairs_of, Deep, Memory, Wide, HasReached, IsAnswered, IsAsked, IsSpent, Finds}
-use Rattle.rbg_pairs.proofs.Common.{at_vertex, IsPositionOf, IsTrialAt}
+use Rattle.rbg_search.proofs.Along.{IsPositionOf, IsTrialAt}
 use Rattle.rbg_flat.specs.Onward.{IsAlone}
 use Rattle.rbg_search.proofs.Alone.{only_position, some_pair, alone_whole, alone_met, alone_pairs, alone_quiet, none_there}
 use Rattle.rbg_search.proofs.Takings.{own_part, candidates_met}

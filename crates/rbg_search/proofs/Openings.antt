@@ -5,9 +5,9 @@ use Rattle.rbg_rules.proofs.PlaceLemmas.{RunPairs_join}
 use Rattle.rbg_rules.proofs.PositionLemmas.{one_action_at}
 use Rattle.rbg_rules.proofs.MoveLemmas.{Applies_one}
 use Rattle.rbg_rules.proofs.LocalityLemmas.{locality_law}
-use Rattle.rbg_pairs.proofs.Common.{IsNext, at_vertex, IsReached}
+use Rattle.rbg_search.proofs.Along.{IsNext, at_vertex, IsReached}
 use Rattle.rbg_search.specs.Passing.{Passes, trying, finding, listing, asking}
-use Rattle.rbg_pairs.proofs.Closures.{by_words, ends_at, next_found, quiet_place}
+use Rattle.rbg_search.proofs.Closures.{by_words, ends_at, next_found, quiet_place}
 
 -- A switch is a modifier.
 pub switch_modifies : (rules : Expression) (p : ℕ) → IsSwitchAt rules p → IsModifierAt rules p

@@ -6,7 +6,7 @@ use Rattle.std.proofs.lemmas.Cmp.{nat_cmp_total, on_total, then_total}
 use Rattle.std.proofs.lemmas.List.Edits.{Swapped, swapped_from_swap, length-swap}
 use Rattle.std.proofs.lemmas.List.Sorted.{IsPermutation-keeps, IsPermutation-sym, Contains-permutation, sorted_far, ranks_by}
 use Rattle.rbg_rules.specs.Meaning.{Start, AbstractGame, AbstractState, IsStateOf}
-use Rattle.rbg_pairs.proofs.Common.{IsBefore, IsFlatPart, IsPositionOf}
+use Rattle.rbg_search.proofs.Along.{IsBefore, IsFlatPart, IsPositionOf}
 use Rattle.rbg_search.specs.internal.Beyond.{IsReady}
 
 abbrev pub pair_cmp : ℕ × ℕ → ℕ × ℕ → Ordering

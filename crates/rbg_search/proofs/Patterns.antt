@@ -6,7 +6,7 @@ use Rattle.rbg_rules.proofs.PatternLemmas.{own_is_action}
 use Rattle.rbg_rules.proofs.LevelLemmas.{one_level_law}
 use Rattle.rbg_search.specs.internal.Asked.{StandsInPattern}
 use Rattle.rbg_shifts.proofs.ShiftLemmas.{level_stands}
-use Rattle.rbg_pairs.proofs.Nesting.{goes_on}
+use Rattle.rbg_search.proofs.Nesting.{goes_on}
 
 -- One stands in a pattern at its beginning.
 pub pattern_inside : (rules : Expression) (p : ℕ) → IsPatternAt rules p → StandsInPattern rules (beginning (inside p))

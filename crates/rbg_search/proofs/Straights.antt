@@ -3,13 +3,13 @@ use Rattle.rbg_base.proofs.Common.{◌≡◌, ◌≢◌, ℕ, suc, ◌<◌, ◌�
 use Rattle.std.proofs.lemmas.List.Quantifiers.{all_pairs_push}
 use Rattle.rbg_rules.specs.Meaning.{Expression, IsNumbered, IsPatternAt, Start, after, Ends, AbstractGame, AbstractState}
 use Rattle.rbg_auto.specs.Steps.{AreAllThatFollow}
-use Rattle.rbg_pairs.proofs.Common.{MeetsAll, IsTrialAt, IsPart, CountsPlain, at_vertex}
+use Rattle.rbg_search.proofs.Along.{MeetsAll, IsTrialAt, IsPart, CountsPlain, at_vertex}
 use Rattle.rbg_search.proofs.Common.{most_pairs_of, IsScanned, IsScanning, IsTold}
 use Rattle.rbg_state.specs.declared.state.trials.Trial.{Trial}
 use Rattle.rbg_state.specs.declared.state.trials.Trial.TheVariants.{Invalid, Modifies, LeadsTo}
-use Rattle.rbg_pairs.proofs.Plains.{plain_none}
+use Rattle.rbg_search.proofs.Plains.{plain_none}
 use Rattle.rbg_search.proofs.Takings.{scanned_met}
-use Rattle.rbg_pairs.proofs.Parts.{begin_part, invalid_part, leads_part, all_met, whole_part}
+use Rattle.rbg_search.proofs.Parts.{begin_part, invalid_part, leads_part, all_met, whole_part}
 
 -- One pair is met.
 meets_one : (xs : List (ℕ × ℕ)) (v p : ℕ) → MeetsAll xs (xs ++ (v, p) ∷ []) v (p ∷ [])

@@ -1,13 +1,12 @@
 -- Each step of a search that counts pairs, by what it began with.
-use Rattle.rbg_base.proofs.Common.{◌≡◌, ℕ, ◌+◌, ◌<◌, ◌≤◌, List, length, get_or, take, Bool, false, sym, subst, Contains, get_or_default, All-contains, All-contains_itself, All-take}
+use Rattle.rbg_base.proofs.Common.{◌≡◌, ℕ, ◌+◌, ◌<◌, List, length, get_or, Bool, false, sym, subst, get_or_default}
 use Rattle.rbg_rules.specs.Meaning.{IsPatternAt, inside, Start, beginning, after, AbstractState, Applies, IsGame, reach, pattern}
 use Rattle.rbg_state.specs.History.{History}
-use Rattle.rbg_pairs.proofs.Common.{IsFlatPart, IsMetPart, at_vertex, IsReached}
-use Rattle.rbg_search.proofs.Common.{GoesOn, Searching, HasPart, CountsPairs, CountsTaken, most_pairs_of, AreMany, StandsInPattern, GoesAfter}
-use Rattle.rbg_pairs.specs.declared.flat.Flat.{Flat}
+use Rattle.rbg_search.proofs.Along.{IsFlatPart, at_vertex, IsReached}
+use Rattle.rbg_search.proofs.Common.{GoesOn, Searching, CountsPairs, CountsTaken, StandsInPattern, GoesAfter}
 use Rattle.rbg_search.proofs.Counted.{found_after, search_before, onward_search}
 use Rattle.rbg_search.proofs.Countings.{goes_after}
-use Rattle.rbg_search.proofs.Takings.{is_candidate, no_shift, reached_met, own_part, any_part, pattern_part, after_part, takes_then, takes_part_of}
+use Rattle.rbg_search.proofs.Takings.{is_candidate, no_shift, any_part, pattern_part, after_part, takes_then, takes_part_of}
 
 -- A pattern was asked in a flat part.
 pub asked_takes_at : {H : Type 0} (h k : Searching) (s u : History) (f : Start) (v p b w : ℕ) (A : Type 0) → k ≡ record h { opened = k.opened; taken = k.taken } → u ≡ record s { room = u.room } → IsGame h.game → IsReached h.game s.state f v p → IsPatternAt h.game.rules p → CountsPairs h.game reach s.state f (h.opened + 1) k.opened h.taken k.taken (Unit {0}) → CountsTaken k.game pattern (at_vertex u.state v) (beginning (inside p)) k.opened b k.taken w A H → CountsTaken h.game reach s.state f (h.opened + 1) b h.taken w A H
@@ -17,22 +16,6 @@ asked_takes_at {H = H} h k s u f v p b w A kept given lawful met is so_far asked
     takes_then h.game reach s.state f (h.opened + 1) k.opened b h.taken k.taken w A so_far
     (takes_part_of h.game reach s.state f pattern (at_vertex s.state v) (beginning (inside p)) k.opened b k.taken w A
     (pattern_part h.game reach s.state f v p (is_candidate h.game lawful.numbered s.state f v p met (no_shift h.game.rules lawful.numbered p is)) is) asked_here)
-
-contains_more : (pairs : List (ℕ × ℕ)) (n : ℕ) (q : ℕ × ℕ) → Contains (take n pairs) q → Contains pairs q
-contains_more pairs n q there = All-contains (Contains pairs) (take n pairs) q (All-take (Contains pairs) n pairs (All-contains_itself pairs)) there
-
--- The pairs that are done are among those that were met.
-pub all_done : (flat : Flat) (P : ℕ → ℕ → Type 0) → ((v p : ℕ) → P v p → Contains (take flat.taken flat.queue.pairs) (v, p)) → (v p : ℕ) → P v p → Contains flat.queue.pairs (v, p)
-all_done flat P met v p is = contains_more flat.queue.pairs flat.taken (v, p) (met v p is)
-
--- The pairs of a flat part are counted, found whole or not.
-pub met_takes : (h k : Searching) (s l : History) (f : Start) (A H : Type 0) (pairs : List (ℕ × ℕ)) (many : ℕ) → k ≡ record h { opened = k.opened; taken = k.taken } → l ≡ record s { room = l.room } → IsGame h.game → IsMetPart k.game l.state f pairs → AreMany pairs many → many ≤ most_pairs_of k.game → (A → (v p : ℕ) → IsReached k.game l.state f v p → Contains pairs (v, p)) → HasPart h.game reach s.state f A H many
-met_takes h k s l f A H pairs many kept given lawful is are few all =
-    own_part h.game reach s.state f many
-    (reached_met h.game lawful.numbered s.state f A H pairs many
-    (search_before (λ y z. IsMetPart y.game z f pairs) h k s l kept given is) are
-    (search_before (λ y z. many ≤ most_pairs_of y.game) h k s l kept given few)
-    (λ answered. search_before (λ y z. (v p : ℕ) → IsReached y.game z f v p → Contains pairs (v, p)) h k s l kept given (all answered)))
 
 -- The search went on after the modifiers that were found.
 pub after_takes : {H : Type 0} (h k : Searching) (s l : History) (f : Start) (pairs pairs' : List (ℕ × ℕ)) (ends : Bool) (b w : ℕ) (A : Type 0) → k ≡ record h { opened = k.opened; taken = k.taken } → l ≡ record s { room = l.room } → pairs' ≡ pairs → IsGame h.game → StandsInPattern h.game.rules f → IsFlatPart h.game s.state f pairs ends → ends ≡ false → CountsPairs h.game reach s.state f h.opened k.opened h.taken k.taken (Unit {0}) → ((e : Start) → GoesAfter k.game l.state e pairs' → CountsTaken k.game pattern l.state e k.opened b k.taken w A H) → CountsTaken h.game pattern s.state f h.opened b h.taken w A H

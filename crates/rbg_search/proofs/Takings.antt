@@ -1,17 +1,17 @@
 -- What a search counts of pairs: those of a flat part, and those of parts that are joined.
 use Rattle.rbg_base.proofs.Common.{◌≡◌, ◌≢◌, ℕ, ◌+◌, ◌*◌, ◌≤◌, inl, inr, List, [], ◌∷◌, ◌++◌, length, Bool, true, false, refl, sym, ap, ◌∙◌, subst, arith, Result, Ok, Err, IsOk, IsErrAnd, OnErr, All, AllPairs, Contains, sum, mul-le, sum_by-append, sum_by-le, All-nil, All-push, All-append, All-weaker, All-contains}
 use Rattle.std.proofs.lemmas.List.{length-append}
-use Rattle.rbg_rules.specs.Meaning.{shift, Expression, IsNumbered, IsModifierAt, IsPatternAt, is_modifier, inside, Start, beginning, after, AbstractGame, AbstractState, Question, reach, pattern}
+use Rattle.rbg_rules.specs.Meaning.{shift, Expression, IsNumbered, IsModifierAt, IsPatternAt, is_modifier, inside, Start, beginning, after, Follows, AbstractGame, AbstractState, Question, reach, pattern}
 use Rattle.rbg_rules.proofs.PositionLemmas.{one_action_at}
 use Rattle.rbg_shifts.specs.Leaps.{IsShiftAt, stay}
-use Rattle.rbg_flat.proofs.Common.{IsCandidate, HasCandidates, CountsMet, IsMarked}
+use Rattle.rbg_flat.proofs.Common.{Way, leaping, stepping, IsFirstLead, IsOfPart, MayCome, IsCandidate, HasCandidates, HasPairs, CountsMet, IsMarked}
 use Rattle.rbg_flat.specs.declared.flat.Flat.{Flat as SetFlat}
-use Rattle.rbg_flat.proofs.ChainLemmas.{candidate_of}
-use Rattle.rbg_search.proofs.Common.{Passes, trying, finding, listing, asking, GoesOn, ComesTo, begins, by_pattern, by_modifier, MayCome, HasMet, HasPart, CountsTaken, most_pairs_of, Over, Memory, IsSpent, IsSpentButOne, AreMany, IsBegunBySets}
-use Rattle.rbg_pairs.proofs.Common.{at_vertex, IsReached, first as comes_first, IsMetPart, IsPart, CountsPlain, HasPlain}
-use Rattle.rbg_pairs.proofs.Closures.{reached, by_words}
-use Rattle.rbg_pairs.proofs.Glances.{no_pattern}
-use Rattle.rbg_pairs.proofs.Parts.{all_met}
+use Rattle.rbg_flat.proofs.ChainLemmas.{part_of}
+use Rattle.rbg_search.proofs.Common.{Passes, trying, finding, listing, asking, GoesOn, ComesTo, begins, by_pattern, by_modifier, HasMet, HasPart, CountsTaken, most_pairs_of, Over, Memory, IsSpent, IsSpentButOne, AreMany, IsBegunBySets}
+use Rattle.rbg_search.proofs.Along.{at_vertex, IsReached, first as comes_first, IsMetPart, IsPart, CountsPlain, HasPlain}
+use Rattle.rbg_search.proofs.Closures.{reached, by_words}
+use Rattle.rbg_search.proofs.Glances.{no_pattern}
+use Rattle.rbg_search.proofs.Parts.{all_met}
 
 -- ---- which result is an answer
 
@@ -111,6 +111,30 @@ candidates_met game numbered s f A H many has few = record {
   };
 }
 
+-- All that a flat part has that is led on so.
+pub pairs_met : (way : Way) (game : AbstractGame) → IsNumbered game.rules → (s : AbstractState) (f : Start) (A H : Type 0) (many : ℕ) → HasPairs way game s f many → many ≤ most_pairs_of game → HasMet game s f A H many
+pairs_met leaping game numbered s f A H many has few = candidates_met game numbered s f A H many has few
+pairs_met stepping game numbered s f A H many has few = record {
+  pairs = has.pairs;
+  met = λ v p there. (has.all v p).0 there;
+  different = has.different;
+  count = has.count;
+  few = few;
+  begun = λ _ p follows plain. (has.all s.vertex p).1 (may_come game numbered s f s.vertex p (comes_first refl follows));
+  whole = λ _. record {
+    all = λ v p may. (has.all v p).1 (candidate_comes game s f v p may);
+    shifts = inr (λ v p may. (has.all v p).1 may);
+  };
+}
+
+part_comes : (way : Way) (game : AbstractGame) (s : AbstractState) (f : Start) (v p : ℕ) → IsOfPart way game s f v p → MayCome game s f v p
+part_comes leaping game s f v p is = candidate_comes game s f v p is
+part_comes stepping game s f v p is = is
+
+first_lead : (way : Way) (game : AbstractGame) (f : Start) (v p : ℕ) → Follows game.rules f (p ∷ []) → ¬ IsShiftAt game.rules p → IsFirstLead way game f v p v
+first_lead leaping game f v p follows plain = record { shifts = []; leads = stay; follows = follows; plain = plain }
+first_lead stepping game f v p follows plain = (refl, follows)
+
 -- What a queue has met, which is all that is reached where the question was answered.
 pub reached_met : (game : AbstractGame) → IsNumbered game.rules → (s : AbstractState) (f : Start) (A H : Type 0) (pairs : List (ℕ × ℕ)) (many : ℕ) → IsMetPart game s f pairs → AreMany pairs many → many ≤ most_pairs_of game → (A → (v p : ℕ) → IsReached game s f v p → Contains pairs (v, p)) → HasMet game s f A H many
 reached_met game numbered s f A H pairs many is are few all = record {
@@ -127,14 +151,14 @@ reached_met game numbered s f A H pairs many is are few all = record {
 }
 
 -- What sets have met so far.
-pub marked_met : (game : AbstractGame) → IsNumbered game.rules → (s : AbstractState) (f : Start) (A H : Type 0) (flat : SetFlat) (many : ℕ) → IsBegunBySets game s f flat → CountsMet (IsMarked flat.sets) many → many ≤ most_pairs_of game → ¬ A → HasMet game s f A H many
-marked_met game numbered s f A H flat many is has few none = record {
+pub marked_met : (way : Way) (game : AbstractGame) → IsNumbered game.rules → (s : AbstractState) (f : Start) (A H : Type 0) (flat : SetFlat) (many : ℕ) → IsBegunBySets way game s f flat → CountsMet (IsMarked flat.sets) many → many ≤ most_pairs_of game → ¬ A → HasMet game s f A H many
+marked_met way game numbered s f A H flat many is has few none = record {
   pairs = has.pairs;
-  met = λ v p there. candidate_comes game s f v p (candidate_of game numbered s f v p (is.begun.sound v p ((has.all (v, p)).0 there)));
+  met = λ v p there. part_comes way game s f v p (part_of way game numbered s f v p (is.begun.sound v p ((has.all (v, p)).0 there)));
   different = has.different;
   count = has.count;
   few = few;
-  begun = λ _ p follows plain. (has.all (s.vertex, p)).1 (is.begun.begun s.vertex p (record { shifts = []; leads = stay; follows = follows; plain = plain }));
+  begun = λ _ p follows plain. (has.all (s.vertex, p)).1 (is.begun.begun s.vertex p (first_lead way game f s.vertex p follows plain));
   whole = λ answered. absurd (none answered);
 }
 

@@ -2,7 +2,7 @@
 use Rattle.rbg_base.proofs.Common.{◌≡◌, ℕ, suc, ◌-◌, ◌<◌, ◌≤◌, List, [], ◌∷◌, ◌++◌, Bool, false, refl, subst, arith, All, Result, Ok, Err, IsOk, IsErrAnd, IsTrue, ◌↔◌, IsPermutation, All-contains}
 use Rattle.rbg_rules.specs.Meaning.{AbstractState, Start, after, Applies, reach, pattern}
 use Rattle.rbg_state.specs.History.{History}
-use Rattle.rbg_pairs.specs.Closure.{at_vertex}
+use Rattle.rbg_search.specs.Closure.{at_vertex}
 use Rattle.rbg_search.proofs.Common.{CountsOpenings, CountsForced, Searching, CountsTaken, GoesAfter, IsCounted, IsAsked, IsReady, RunsAfterPair, IsAskedAfter, Stays, TriesAfter, Over, Deep, Memory, Wide}
 use Rattle.rbg_search.proofs.Asking.{room_twice}
 use Rattle.rbg_search.proofs.Counted.{ok_not_err, same_error, deep_not_wide, counted_as, after_begin, after_only, onward_search, search_before}

@@ -4,7 +4,7 @@ use Rattle.std.proofs.lemmas.List.{length-append, take_more}
 use Rattle.std.proofs.lemmas.List.Sorted.{IsPermutation-sym, IsPermutation-trans, IsPermutation-append_right, Contains-permutation, All-permutation, length_permutation}
 use Rattle.rbg_rules.specs.Meaning.{IsNumbered, Start, after, AbstractGame, AbstractState, Applies, pattern}
 use Rattle.rbg_state.specs.History.{History}
-use Rattle.rbg_pairs.proofs.Common.{IsNext, at_vertex}
+use Rattle.rbg_search.proofs.Along.{IsNext, at_vertex}
 use Rattle.rbg_search.proofs.Common.{Searching, CountsForced, TakesAfter, CountsUpTo, CountsPairs, CountsTaken, GoesAfter, IsCounted, RunsAfterPair, SomeRunsAfter}
 use Rattle.rbg_search.proofs.CountedSteps.{AfterStep, one_beyond, one_too_many}
 use Rattle.rbg_search.proofs.ForcingSteps.{one_forced}

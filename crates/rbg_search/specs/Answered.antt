@@ -2,8 +2,8 @@
 use Rattle.std.specs.Prelude.{◌≡◌, ℕ, ◌<◌, ◌≤◌, List, length, All, Bool, Result, Err, IsOk}
 use Rattle.rbg_rules.specs.Meaning.{Start, Question, reach, IsDeep, IsForcedDeep}
 use Rattle.rbg_state.specs.History.{History}
-use Rattle.rbg_pairs.specs.Flat.{IsFlatPart}
-use Rattle.rbg_pairs.specs.Start.{IsPositionOf}
+use Rattle.rbg_search.specs.Flat.{IsFlatPart}
+use Rattle.rbg_search.specs.Start.{IsPositionOf}
 use Rattle.rbg_search.specs.Counting.{CountsOpenings, IsOverBudget}
 use Rattle.rbg_search.specs.Forced.{CountsForced, CountsAllForced}
 use Rattle.rbg_search.specs.Searching.{Searching}

@@ -1,7 +1,7 @@
 -- How a question goes on after a modifier, and what it counts while the modifiers that come next are taken in turn.
 use Rattle.std.specs.Prelude.{◌≡◌, ◌≢◌, ℕ, ◌+◌, List, [], ◌∷◌, ◌++◌, length, All, AllPairs, Contains}
 use Rattle.rbg_rules.specs.Meaning.{IsSwitchAt, Start, AbstractGame, AbstractState, Applies, Question, try_move, find_move, list_moves, pattern, Item, modifier_at, pattern_at, items_of, AnswersAfter, Opening, IsDeep}
-use Rattle.rbg_pairs.specs.Flat.{IsNext}
+use Rattle.rbg_search.specs.Flat.{IsNext}
 
 -- The question from s and f asks the second one after the modifier p at vertex v: `try_move` follows its own pairs,
 -- and `find_move` and `pattern` go on where there is no answer before it.

@@ -1,8 +1,8 @@
 -- How many pairs of a vertex and a position a search takes: those that its flat parts meet, each when it is met.
-use Rattle.std.specs.Prelude.{◌≡◌, ◌≢◌, ℕ, ◌+◌, ◌*◌, ◌≤◌, ◌⊎◌, List, [], ◌∷◌, ◌++◌, length, sum, All, AllPairs, Contains}
-use Rattle.rbg_rules.specs.Meaning.{HasNoModifier, IsPatternAt, inside, positions_of, Start, beginning, after, Follows, AbstractGame, AbstractState, Run, Question, pattern}
+use Rattle.std.specs.Prelude.{◌≡◌, ◌≢◌, ℕ, ◌+◌, ◌*◌, ◌≤◌, ◌⊎◌, List, [], ◌∷◌, length, sum, All, AllPairs, Contains}
+use Rattle.rbg_rules.specs.Meaning.{IsPatternAt, inside, positions_of, Start, beginning, after, Follows, AbstractGame, AbstractState, Question, pattern}
 use Rattle.rbg_shifts.specs.Leaps.{IsShiftAt}
-use Rattle.rbg_flat.specs.Candidates.{IsCandidate}
+use Rattle.rbg_flat.specs.Candidates.{IsCandidate, MayCome}
 use Rattle.rbg_search.specs.Passing.{GoesOn}
 
 -- A question comes to the flat part from t and g: it begins with it, or a pattern does that may come next there or
@@ -24,16 +24,6 @@ pub data ComesTo (game : AbstractGame) (t : AbstractState) (g : Start) : Questio
 -- the most pairs that a flat part has: each vertex with each position
 abbrev pub most_pairs_of : AbstractGame → ℕ
 most_pairs_of game = length (positions_of game.rules) * length game.board.first
-
--- Position p may come next at vertex v, with no modifier before it: some positions without a modifier run from s to a
--- semi-state at v, and p follows them there. It may be a shift.
-pub record MayCome (game : AbstractGame) (s : AbstractState) (f : Start) (v p : ℕ) : Type 0 where
-  pub before : List ℕ
-  pub here : AbstractState
-  pub no_modifier : HasNoModifier game.rules before
-  pub runs : Run game before s here
-  pub vertex : here.vertex ≡ v
-  pub follows : Follows game.rules f (before ++ p ∷ [])
 
 -- The pairs are all that a flat part has: each candidate. Where shifts are followed one by one, they are among the pairs,
 -- each with each vertex at which it may come next; where leaps tell to where they lead, no shift is.

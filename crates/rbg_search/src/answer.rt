@@ -1,9 +1,9 @@
 //! What a pattern's answer is, and what becomes of the pattern by it.
 ghost use Rattle.std.specs.Prelude.{◌≡◌, ℕ, IsTrue, ◌↔◌};
 ghost use Rattle.rbg_rules.specs.Meaning.{AbstractGame, AbstractState, IsNumbered, IsPatternAt, inside, beginning, Applies, SomeWordRuns, IsGame};
-ghost use Rattle.rbg_pairs.specs.Start.{IsPositionOf};
-ghost use Rattle.rbg_pairs.specs.Closure.{at_vertex};
-ghost use Rattle.rbg_pairs.specs.Part.{IsTrialAt};
+ghost use Rattle.rbg_search.specs.Start.{IsPositionOf};
+ghost use Rattle.rbg_search.specs.Closure.{at_vertex};
+ghost use Rattle.rbg_search.specs.Part.{IsTrialAt};
 ghost use Rattle.rbg_search.specs.internal.Shown.{shows_negative};
 
 use rbg_base::{Position, Vertex};

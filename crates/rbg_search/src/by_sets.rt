@@ -1,13 +1,13 @@
 //! Flat parts that are found by sets of vertices: what a search does with one.
 ghost use Rattle.std.specs.Prelude.{◌≡◌, ◌<◌, IfOk, IfErr, IfSome, IfNone};
 ghost use Rattle.rbg_rules.specs.Meaning.{IsStart, IsStateOf, Start};
-ghost use Rattle.rbg_flat.specs.Found.{HasCandidates};
+ghost use Rattle.rbg_flat.specs.Found.{HasPairs};
 ghost use Rattle.rbg_flat.specs.Met.{CountsMet};
-ghost use Rattle.rbg_flat.specs.Paths.{ArePathsOf};
+ghost use Rattle.rbg_flat.specs.Paths.{ArePathsOf, way_of};
 ghost use Rattle.rbg_flat.specs.internal.Leading.{AreSizedFor};
 ghost use Rattle.rbg_flat.specs.internal.Sets.{IsMarked};
-ghost use Rattle.rbg_pairs.specs.Flat.{IsFlatPart};
-ghost use Rattle.rbg_pairs.specs.Start.{start_of};
+ghost use Rattle.rbg_search.specs.Flat.{IsFlatPart};
+ghost use Rattle.rbg_search.specs.Start.{start_of};
 ghost use Rattle.rbg_search.specs.internal.BySets.{IsBegunBySets, HasSetsFor, IsWhole, BeginsBySets, AdvancesBySets, IsToBeAsked, TakesBySets};
 ghost use Rattle.rbg_search.specs.internal.Spent.{CountsPart, IsSpentButOne};
 
@@ -16,7 +16,7 @@ use crate::search::Search;
 use rbg_auto::Steps;
 use rbg_base::{Pair, Position, Vertex};
 use rbg_flat::{Flat as SetFlat, Modifiers, Paths};
-use rbg_pairs::Origin;
+use rbg_shifts::Origin;
 use rbg_state::SemiState;
 
 impl<'a, S: Steps> Search<'a, S> {
@@ -53,7 +53,7 @@ impl<'a, S: Steps> Search<'a, S> {
         requires stands { IsStart self.old.game.rules (start_of origin) }
         ensures kept { self.new ≡ self.old }
         ensures begins { IfOk result (λ flat.
-            BeginsBySets self.old.game state.now.state (start_of origin) flat.value) }
+            BeginsBySets (way_of paths.now) self.old.game state.now.state (start_of origin) flat.value) }
         ensures memory { IfErr result (λ over. over ≡ Over.Memory) }
     {
         let mut flat = self.unused_sets()?;
@@ -71,7 +71,7 @@ impl<'a, S: Steps> Search<'a, S> {
         requires paths { ArePathsOf self.now.game paths.now }
         requires fits { IsStateOf self.now.game state.now.state }
         requires sets { HasSetsFor self.now.game flat.old.value }
-        ensures advances { AdvancesBySets self.now.game state.now.state flat.old.value
+        ensures advances { AdvancesBySets (way_of paths.now) self.now.game state.now.state flat.old.value
             flat.new.value }
         ensures next { IfSome result (λ pair.
             IsToBeAsked self.now.game flat.new.value pair.0 pair.1) }
@@ -94,7 +94,7 @@ impl<'a, S: Steps> Search<'a, S> {
         requires fits { IsStateOf self.now.game state.now.state }
         requires sets { HasSetsFor self.now.game flat.old.value }
         requires next { IsToBeAsked self.now.game flat.old.value vertex position }
-        ensures takes { TakesBySets self.now.game state.now.state flat.old.value flat.new.value
+        ensures takes { TakesBySets (way_of paths.now) self.now.game state.now.state flat.old.value flat.new.value
             vertex position valid }
     {
         flat.take(self.rules.game(), paths, state, vertex, position, valid);
@@ -117,11 +117,11 @@ impl<'a, S: Steps> Search<'a, S> {
         ensures kept { self.new ≡ record self.old { opened = self.new.opened; taken = self.new.taken } }
         ensures opened { self.new.opened ≡ self.old.opened }
         ensures part { IfOk result (λ ends. (f : Start)
-            → IsBegunBySets self.old.game state.now.state f flat.value
+            → IsBegunBySets (way_of paths.now) self.old.game state.now.state f flat.value
             → IsFlatPart self.old.game state.now.state f pairs.new ends) }
         ensures taken { CountsPart self.old.game (λ many. (f : Start)
-            → IsBegunBySets self.old.game state.now.state f flat.value
-            → HasCandidates self.old.game state.now.state f many) self.old.taken self.new.taken }
+            → IsBegunBySets (way_of paths.now) self.old.game state.now.state f flat.value
+            → HasPairs (way_of paths.now) self.old.game state.now.state f many) self.old.taken self.new.taken }
         ensures memory { IfErr result (λ over. over ≡ Over.Memory) }
     {
         let mut flat = flat;

@@ -1,21 +1,18 @@
 //! Flat parts that are kept for further use.
 ghost use Rattle.std.specs.Prelude.{◌≡◌, All, IfSome};
-ghost use Rattle.rbg_search.specs.internal.Fitting.{FitMarks, FitSets, IsOfSize};
+ghost use Rattle.rbg_search.specs.internal.Fitting.{FitSets, IsOfSize};
 
 use rbg_flat::Flat as SetFlat;
-use rbg_pairs::Flat;
 use rbg_rules::Game;
 use std::alloc::Global;
 
-/// Flat parts that are not in use, by pairs and by sets. All are for games with so many positions and vertices. Where
+/// Flat parts that are not in use. All are for games with so many positions and vertices. Where
 /// there is no memory for one more, it is let go.
 #[derive(Drop)]
 pub(crate) struct FlatPool {
-    flats: Vec<Box<Flat>>,
     sets: Vec<Box<SetFlat>>,
     positions: usize,
     vertices: usize,
-    ghost fit: { All (λ flat. FitMarks positions vertices flat.value.queue) flats.items },
     ghost fit_sets: { All (λ flat. FitSets positions vertices flat.value.sets) sets.items },
 }
 
@@ -23,7 +20,6 @@ impl FlatPool {
     /// No flat parts.
     pub(crate) fn new(alloc: Global) -> FlatPool {
         FlatPool {
-            flats: Vec::new(alloc),
             sets: Vec::new(alloc),
             positions: 0,
             vertices: 0,
@@ -45,23 +41,12 @@ impl FlatPool {
     fn fit_anew(&mut self, game: &Game)
         ensures { IsOfSize game.now self.new.positions self.new.vertices }
     {
-        self.flats.clear();
         self.sets.clear();
         self.positions = game.positions();
         self.vertices = game.board().len();
     }
 
-    /// A flat part by pairs, if there is one.
-    pub(crate) fn take(&mut self) -> Option<Box<Flat>>
-        ensures fits { IfSome result (λ flat.
-            FitMarks self.old.positions self.old.vertices flat.value.queue) }
-        ensures positions { self.new.positions ≡ self.old.positions }
-        ensures vertices { self.new.vertices ≡ self.old.vertices }
-    {
-        self.flats.pop()
-    }
-
-    /// A flat part by sets, if there is one.
+    /// A flat part, if there is one.
     #[inline(always)]
     pub(crate) fn take_sets(&mut self) -> Option<Box<SetFlat>>
         ensures fits { IfSome result (λ flat.
@@ -72,16 +57,7 @@ impl FlatPool {
         self.sets.pop()
     }
 
-    /// Keeps a flat part by pairs.
-    pub(crate) fn keep(&mut self, flat: Box<Flat>)
-        requires { FitMarks self.old.positions self.old.vertices flat.value.queue }
-        ensures positions { self.new.positions ≡ self.old.positions }
-        ensures vertices { self.new.vertices ≡ self.old.vertices }
-    {
-        let _kept = self.flats.push(flat);
-    }
-
-    /// Keeps a flat part by sets.
+    /// Keeps a flat part.
     #[inline(always)]
     pub(crate) fn keep_sets(&mut self, flat: Box<SetFlat>)
         requires { FitSets self.old.positions self.old.vertices flat.value.sets }

@@ -3,9 +3,10 @@
 
 mod answer;
 mod buffers;
-mod by_pairs;
 mod by_sets;
 mod flat_pool;
+mod game_steps;
+mod held_paths;
 mod lists;
 mod order;
 mod over;
@@ -14,11 +15,13 @@ mod search;
 mod single;
 mod standing;
 mod tally;
+mod trials;
 
 pub use buffers::Buffers;
+pub use game_steps::GameSteps;
 pub use over::Over;
 pub use rbg_base::Memory;
 pub use rbg_flat::Onward;
-pub use rbg_pairs::Origin;
+pub use rbg_shifts::Origin;
 pub use search::{Budget, FlatPart, Search};
 pub use tally::Tally;

@@ -1,7 +1,7 @@
 //! The order in which modifiers are tried.
 ghost use Rattle.std.specs.List.Sorted.{IsPermutation};
 ghost use Rattle.std.specs.Prelude.{◌≢◌, AllPairs};
-ghost use Rattle.rbg_pairs.specs.Flat.{IsBefore};
+ghost use Rattle.rbg_search.specs.Flat.{IsBefore};
 
 use rbg_base::Pair;
 

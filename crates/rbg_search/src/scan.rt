@@ -2,18 +2,20 @@
 //! from the beginning. They are answered by a scan.
 ghost use Rattle.std.specs.Prelude.{◌≡◌, ◌<◌, ◌≤◌, ◌↔◌, length, Bool, Err, IfOk, IfSome, IsOk, IsTrue, OnOk};
 ghost use Rattle.rbg_rules.specs.Meaning.{Applies, IsPatternAt, inside, pattern, AbstractState, IsStateOf, beginning};
-ghost use Rattle.rbg_pairs.specs.Closure.{at_vertex};
+ghost use Rattle.rbg_search.specs.Closure.{at_vertex};
 ghost use Rattle.rbg_search.specs.Forced.{CountsForced};
 ghost use Rattle.rbg_search.specs.Taken.{CountsTaken, HasMet, most_pairs_of};
 ghost use Rattle.rbg_search.specs.internal.Asked.{IsCounted};
 ghost use Rattle.rbg_search.specs.internal.Straight.{IsScanned, IsTold};
 
+use crate::game_steps::GameSteps;
 use crate::over::Over;
 use crate::search::Search;
 use crate::single::only_position;
+use crate::trials::{one_more, tried};
 use rbg_auto::{Expr, Steps};
 use rbg_base::{Position, Vertex};
-use rbg_pairs::{GameSteps, Origin, one_more, tried};
+use rbg_shifts::Origin;
 use rbg_state::{SemiState, Trial};
 
 /// What is told of a pattern that needs no flat part, by a scan along a straight line or by its first leaps.

@@ -9,20 +9,23 @@ ghost use Rattle.rbg_search.specs.internal.Taking.{RanAfter};
 ghost use Rattle.rbg_search.specs.Answered.{IsAnswered, HasReached};
 ghost use Rattle.rbg_search.specs.internal.Asked.{StandsInPattern, IsCounted, IsAsked};
 ghost use Rattle.rbg_search.specs.internal.Finding.{HasFound};
+ghost use Rattle.rbg_search.specs.internal.Held.{HoldsPathsOf};
 ghost use Rattle.rbg_search.specs.internal.Trying.{IsAskedAfter};
-ghost use Rattle.rbg_pairs.specs.Flat.{IsBefore};
-ghost use Rattle.rbg_pairs.specs.Start.{start_of, IsPositionOf};
+ghost use Rattle.rbg_search.specs.Flat.{IsBefore};
+ghost use Rattle.rbg_search.specs.Start.{start_of, IsPositionOf};
 ghost use Rattle.rbg_state.specs.History.{capacity_of, IsAfter};
 ghost use Rattle.rbg_search.specs.internal.Beyond.{IsReady, RunsAfterPair, SomeRunsAfter};
-ghost use Rattle.rbg_pairs.specs.Closure.{at_vertex};
-ghost use Rattle.rbg_pairs.specs.Nesting.{NestsFrom};
+ghost use Rattle.rbg_search.specs.Closure.{at_vertex};
+ghost use Rattle.rbg_search.specs.Nesting.{NestsFrom};
 ghost use Rattle.rbg_auto.specs.Steps.{AreAllThatFollow};
-ghost use Rattle.rbg_pairs.specs.Part.{IsTrialAt};
+ghost use Rattle.rbg_search.specs.Part.{IsTrialAt};
 ghost use Rattle.rbg_search.specs.internal.Spent.{IsSpent, IsSpentButOne};
 ghost use Rattle.rbg_search.specs.internal.Straight.{IsTold};
 
 use crate::answer::is_valid;
 use crate::buffers::Buffers;
+use crate::game_steps::GameSteps;
+use crate::held_paths::HeldPaths;
 use crate::order::sort;
 use crate::over::Over;
 use crate::scan::{PatternScan, scan_inside};
@@ -31,9 +34,9 @@ use crate::standing::stand;
 use crate::tally::Tally;
 use rbg_auto::{Expr, Steps};
 use rbg_base::{Pair, Position, Vertex};
-use rbg_flat::{Flat as SetFlat, Modifiers, Onward, Paths};
-use rbg_pairs::{Flat, GameSteps, Origin};
+use rbg_flat::{Modifiers, Onward, Paths};
 use rbg_rules::Game;
+use rbg_shifts::Origin;
 use rbg_state::{SemiState, Trial};
 use std::alloc::Global;
 use std::marker::Model;
@@ -61,6 +64,8 @@ pub struct FlatPart {
 pub struct Search<'a, S: Steps> {
     pub(crate) alloc: Global,
     pub(crate) rules: GameSteps<'a, S>,
+    /// The paths that this search made for itself, since none were lent to it; none while it answers a question.
+    own: Option<Box<Paths>>,
     budget: Budget,
     opened: u32,
     taken: u64,
@@ -82,14 +87,16 @@ impl<'a, S: Steps> Model for Search<'a, S> {
       taken = s.taken;
     } };
 
-    ghost use Rattle.std.specs.Prelude.{◌<◌, ◌≤◌};
+    ghost use Rattle.std.specs.Prelude.{◌<◌, ◌≤◌, IfSome};
+    ghost use Rattle.rbg_flat.specs.Paths.{ArePathsOf};
     ghost use Rattle.rbg_search.specs.internal.Fitting.{IsOfSize};
     ghost use Rattle.rbg_search.specs.internal.Spent.{IsSpent};
 
     ghost invariant = { λ s.
         IsOfSize s.rules s.buffers.now.flats.positions s.buffers.now.flats.vertices
         × (s.opened ≤ s.budget.openings)
-        × IsSpent s.rules s.opened s.taken × (0 < s.budget.modifiers) };
+        × IsSpent s.rules s.opened s.taken × (0 < s.budget.modifiers)
+        × IfSome s.own (λ paths. ArePathsOf s.rules paths.value) };
 }
 
 impl<'a, S: Steps> Search<'a, S> {
@@ -131,6 +138,7 @@ impl<'a, S: Steps> Search<'a, S> {
         Search {
             alloc,
             rules,
+            own: None,
             budget: Budget {
                 openings: budget.openings,
                 modifiers: budget.modifiers.max(1),
@@ -238,7 +246,7 @@ impl<'a, S: Steps> Search<'a, S> {
             (start_of origin) pairs.new ends) }
     {
         let nested = self.rules.nesting();
-        let ends = self.flat_part(state, origin, nested, pairs)?;
+        let ends = self.own_flat_part(state, origin, nested, pairs)?;
         Ok(ends)
     }
 
@@ -329,8 +337,104 @@ impl<'a, S: Steps> Search<'a, S> {
         state.reserve(1)?;
         let nested = self.rules.nesting() + 1;
         let vertex = state.vertex();
-        let valid = self.ask(state, vertex, position, nested)?;
+        let valid = self.ask_first(state, vertex, position, nested)?;
         Ok(valid)
+    }
+
+    /// As `flat_part`, along the paths of this search.
+    #[inline(always)]
+    fn own_flat_part(
+        &mut self,
+        state: &mut SemiState,
+        origin: Origin,
+        nested: u8,
+        pairs: &mut Modifiers,
+    ) -> Result<bool, Over>
+        requires fits { IsStateOf self.old.game state.old.state }
+        requires nested { NestsFrom self.old.game.rules nested (start_of origin) }
+        requires start { IsStart self.old.game.rules (start_of origin) }
+        ensures asked { IsAsked self.old self.new state.old state.new reach state.old.state
+            (start_of origin) self.old.modifiers result }
+        ensures found { IfOk result (λ ends. HasFound self.old self.new state.old state.new
+            (start_of origin) nested pairs.new ends) }
+    {
+        let held = self.take_paths()?;
+        let answer = self.flat_part(held.get(), state, origin, nested, pairs);
+        self.keep_paths(held);
+        answer
+    }
+
+    /// As `ask`, along the paths of this search.
+    fn ask_first(
+        &mut self,
+        state: &mut SemiState,
+        vertex: Vertex,
+        position: Position,
+        nested: u8,
+    ) -> Result<bool, Over>
+        requires fits { IsStateOf self.old.game state.old.state }
+        requires room { 1 ≤ state.old.room }
+        requires vertex { vertex < length state.old.state.pieces }
+        requires there { IsPatternAt self.old.game.rules position }
+        requires some { 0 < nested }
+        requires nested { (k : ℕ) → nested ≡ suc k
+            → NestsFrom self.old.game.rules k (beginning (inside position)) }
+        ensures asked { IsAsked self.old self.new state.old state.new pattern
+            (at_vertex state.old.state vertex) (beginning (inside position))
+            self.old.modifiers result }
+        ensures valid { IfOk result (λ valid. IsTrue valid ↔ Applies self.old.game position
+            (at_vertex state.old.state vertex) (at_vertex state.old.state vertex)) }
+        ensures forced { OnOk result ((cut : Bool) → CountsForced self.old.game cut pattern
+            (at_vertex state.old.state vertex) (beginning (inside position))
+            self.old.opened self.new.opened self.old.modifiers self.old.modifiers) }
+    {
+        let held = self.take_paths()?;
+        let answer = self.ask(held.get(), state, vertex, position, nested);
+        self.keep_paths(held);
+        answer
+    }
+
+    /// The paths by which a question is answered. A search to which none were lent makes some for itself, with no leaps, at
+    /// its first question.
+    #[inline(always)]
+    fn take_paths(&mut self) -> Result<HeldPaths<'a>, Over>
+        ensures kept { self.new ≡ self.old }
+        ensures paths { IfOk result (HoldsPathsOf self.old.game) }
+        ensures memory { IfErr result (λ over. over ≡ Over.Memory) }
+    {
+        match self.rules.paths() {
+            Some(paths) => Ok(HeldPaths::Lent(paths)),
+            None => self.take_own(),
+        }
+    }
+
+    /// The paths that a search makes for itself.
+    #[cold]
+    #[inline(never)]
+    fn take_own(&mut self) -> Result<HeldPaths<'a>, Over>
+        ensures kept { self.new ≡ self.old }
+        ensures paths { IfOk result (HoldsPathsOf self.old.game) }
+        ensures memory { IfErr result (λ over. over ≡ Over.Memory) }
+    {
+        match self.own.take() {
+            Some(own) => Ok(HeldPaths::Own(own)),
+            None => {
+                let made = self.rules.stepwise_paths(self.alloc)?;
+                Ok(HeldPaths::Own(Box::new(self.alloc, made)?))
+            }
+        }
+    }
+
+    /// Keeps the paths that a search made for itself.
+    #[inline(always)]
+    fn keep_paths(&mut self, held: HeldPaths<'a>)
+        requires { HoldsPathsOf self.old.game held }
+        ensures { self.new ≡ self.old }
+    {
+        match held {
+            HeldPaths::Lent(_) => {}
+            HeldPaths::Own(own) => self.own = Some(own),
+        }
     }
 
     /// Takes one more opening up.
@@ -420,101 +524,44 @@ impl<'a, S: Steps> Search<'a, S> {
 
     /// Looks at a pattern at a vertex without a flat part: where nothing goes on from its beginning, its leaps tell what is
     /// met, and where its inside is a straight line, a scan does.
-    fn scan(&self, state: &SemiState, vertex: Vertex, position: Position) -> Option<PatternScan>
+    fn scan(
+        &self,
+        paths: &Paths,
+        state: &SemiState,
+        vertex: Vertex,
+        position: Position,
+    ) -> Option<PatternScan>
+        requires paths { ArePathsOf self.now.game paths.now }
         requires fits { IsStateOf self.now.game state.now.state }
         requires vertex { vertex < length state.now.state.pieces }
         requires there { IsPatternAt self.now.game.rules position }
         ensures { IfSome result (λ scan. IsTold self.now.game (at_vertex state.now.state vertex)
             (beginning (inside position)) scan.ends scan.pairs) }
     {
-        let Some(paths) = self.rules.paths() else {
-            return scan_inside(&self.rules, state, vertex, position, true);
-        };
         if let Some(dead) = paths.dead_end(self.rules.game(), state, position, vertex) {
             return Some(PatternScan {
                 ends: dead.ends,
                 pairs: dead.many,
             });
         }
-        scan_inside(&self.rules, state, vertex, position, false)
+        scan_inside(&self.rules, state, vertex, position, !paths.has_leaps())
     }
 
-    /// What is reached, in a list that is lent, and whether a word may end with no modifier more. Patterns nest at most
-    /// `nested` deep there.
+    /// What is reached, in a list that is lent, and whether a word may end with no modifier more, along the paths of the
+    /// game. Patterns nest at most `nested` deep there.
     #[cycle(search)]
     fn flat_part(
         &mut self,
-        state: &mut SemiState,
-        origin: Origin,
-        nested: u8,
-        pairs: &mut Modifiers,
-    ) -> Result<bool, Over>
-        requires fits { IsStateOf self.old.game state.old.state }
-        requires nested { NestsFrom self.old.game.rules nested (start_of origin) }
-        requires start { IsStart self.old.game.rules (start_of origin) }
-        ensures asked { IsAsked self.old self.new state.old state.new reach state.old.state
-            (start_of origin) self.old.modifiers result }
-        ensures found { IfOk result (λ ends. HasFound self.old self.new state.old state.new
-            (start_of origin) nested pairs.new ends) }
-    {
-        if let Some(paths) = self.rules.paths() {
-            return self.sets_part(state, origin, nested, pairs, paths);
-        }
-        self.pairs_part(state, origin, nested, pairs)
-    }
-
-    /// The same by pairs. It stands apart, since a search with paths never comes here, and nearly all games have them.
-    #[cycle(search)]
-    #[inline(never)]
-    fn pairs_part(
-        &mut self,
-        state: &mut SemiState,
-        origin: Origin,
-        nested: u8,
-        pairs: &mut Modifiers,
-    ) -> Result<bool, Over>
-        requires fits { IsStateOf self.old.game state.old.state }
-        requires nested { NestsFrom self.old.game.rules nested (start_of origin) }
-        requires start { IsStart self.old.game.rules (start_of origin) }
-        ensures asked { IsAsked self.old self.new state.old state.new reach state.old.state
-            (start_of origin) self.old.modifiers result }
-        ensures found { IfOk result (λ ends. HasFound self.old self.new state.old state.new
-            (start_of origin) nested pairs.new ends) }
-    {
-        self.enter(state)?;
-        let mut flat = self.begun(origin, state.vertex())?;
-        loop {
-            let Ok(next) = self.advance(&mut flat, state) else {
-                return Err(self.lose(flat, Over::Memory));
-            };
-            let Some(Pair { vertex, position }) = next else {
-                let ends = self.finish(flat, pairs)?;
-                return Ok(ends);
-            };
-            let valid = match self.ask(state, vertex, position, nested) {
-                Ok(answer) => answer,
-                Err(over) => return Err(self.lose(flat, over)),
-            };
-            let Ok(_taken) = self.take(&mut flat, vertex, position, valid) else {
-                return Err(self.lose(flat, Over::Memory));
-            };
-        }
-    }
-
-    /// The same by sets, along the paths of the game.
-    #[cycle(search)]
-    fn sets_part(
-        &mut self,
-        state: &mut SemiState,
-        origin: Origin,
-        nested: u8,
-        pairs: &mut Modifiers,
         paths: &Paths,
+        state: &mut SemiState,
+        origin: Origin,
+        nested: u8,
+        pairs: &mut Modifiers,
     ) -> Result<bool, Over>
+        requires paths { ArePathsOf self.old.game paths.now }
         requires fits { IsStateOf self.old.game state.old.state }
         requires nested { NestsFrom self.old.game.rules nested (start_of origin) }
         requires start { IsStart self.old.game.rules (start_of origin) }
-        requires paths { ArePathsOf self.old.game paths.now }
         ensures asked { IsAsked self.old self.new state.old state.new reach state.old.state
             (start_of origin) self.old.modifiers result }
         ensures found { IfOk result (λ ends. HasFound self.old self.new state.old state.new
@@ -523,7 +570,7 @@ impl<'a, S: Steps> Search<'a, S> {
         self.enter(state)?;
         let mut flat = self.begun_by_sets(paths, state, origin)?;
         while let Some(Pair { vertex, position }) = self.advance_by_sets(paths, &mut flat, state) {
-            let valid = match self.ask(state, vertex, position, nested) {
+            let valid = match self.ask(paths, state, vertex, position, nested) {
                 Ok(answer) => answer,
                 Err(over) => return Err(self.lose_sets(flat, over)),
             };
@@ -537,11 +584,13 @@ impl<'a, S: Steps> Search<'a, S> {
     #[cycle(search)]
     fn ask(
         &mut self,
+        paths: &Paths,
         state: &mut SemiState,
         vertex: Vertex,
         position: Position,
         nested: u8,
     ) -> Result<bool, Over>
+        requires paths { ArePathsOf self.old.game paths.now }
         requires fits { IsStateOf self.old.game state.old.state }
         requires room { 1 ≤ state.old.room }
         requires vertex { vertex < length state.old.state.pieces }
@@ -558,14 +607,14 @@ impl<'a, S: Steps> Search<'a, S> {
             (at_vertex state.old.state vertex) (beginning (inside position))
             self.old.opened self.new.opened self.old.modifiers self.old.modifiers) }
     {
-        if let Some(scan) = self.scan(state, vertex, position) {
+        if let Some(scan) = self.scan(paths, state, vertex, position) {
             return self.answer(position, scan);
         }
         let modifiers = self.budget.modifiers;
         let mark = state.mark();
         stand(state, vertex);
         let inside = Origin::Begin(Expr::Inside(position));
-        let runs = self.word_runs(state, inside, nested - 1, modifiers);
+        let runs = self.word_runs(paths, state, inside, nested - 1, modifiers);
         state.undo_to(mark);
         Ok(self.is_valid(position, runs?))
     }
@@ -576,11 +625,13 @@ impl<'a, S: Steps> Search<'a, S> {
     #[inline(always)]
     fn word_runs(
         &mut self,
+        paths: &Paths,
         state: &mut SemiState,
         origin: Origin,
         nested: u8,
         modifiers: u16,
     ) -> Result<bool, Over>
+        requires paths { ArePathsOf self.old.game paths.now }
         requires fits { IsStateOf self.old.game state.old.state }
         requires nested { NestsFrom self.old.game.rules nested (start_of origin) }
         requires inside { StandsInPattern self.old.game.rules (start_of origin) }
@@ -593,12 +644,12 @@ impl<'a, S: Steps> Search<'a, S> {
             self.old.opened self.new.opened modifiers self.old.modifiers) }
     {
         let mut pairs = self.take_list();
-        let ends = self.flat_part(state, origin, nested, &mut pairs)?;
+        let ends = self.flat_part(paths, state, origin, nested, &mut pairs)?;
         if ends {
             self.keep_list(pairs);
             return Ok(true);
         }
-        let runs = self.runs_after(state, &mut pairs, nested, modifiers)?;
+        let runs = self.runs_after(paths, state, &mut pairs, nested, modifiers)?;
         self.keep_list(pairs);
         Ok(runs)
     }
@@ -608,11 +659,13 @@ impl<'a, S: Steps> Search<'a, S> {
     #[inline(always)]
     fn runs_after(
         &mut self,
+        paths: &Paths,
         state: &mut SemiState,
         pairs: &mut Modifiers,
         nested: u8,
         modifiers: u16,
     ) -> Result<bool, Over>
+        requires paths { ArePathsOf self.old.game paths.now }
         requires fits { IsStateOf self.old.game state.old.state }
         requires room { 2 ≤ state.old.room }
         requires ready { All (IsReady self.old.game state.old.state nested) pairs.old }
@@ -628,7 +681,7 @@ impl<'a, S: Steps> Search<'a, S> {
             if modifiers <= 1 {
                 return Err(Over::Deep);
             }
-            if self.runs_after_one(state, pair, nested, modifiers)? {
+            if self.runs_after_one(paths, state, pair, nested, modifiers)? {
                 return Ok(true);
             }
         }
@@ -639,11 +692,13 @@ impl<'a, S: Steps> Search<'a, S> {
     #[cycle(search)]
     fn runs_after_one(
         &mut self,
+        paths: &Paths,
         state: &mut SemiState,
         pair: Pair,
         nested: u8,
         modifiers: u16,
     ) -> Result<bool, Over>
+        requires paths { ArePathsOf self.old.game paths.now }
         requires fits { IsStateOf self.old.game state.old.state }
         requires room { 2 ≤ state.old.room }
         requires ready { IsReady self.old.game state.old.state nested pair }
@@ -662,7 +717,8 @@ impl<'a, S: Steps> Search<'a, S> {
     {
         let mark = state.mark();
         self.apply_at(state, pair.vertex, pair.position);
-        let runs = self.word_runs(state, Origin::After(pair.position), nested, modifiers - 1);
+        let origin = Origin::After(pair.position);
+        let runs = self.word_runs(paths, state, origin, nested, modifiers - 1);
         state.undo_to(mark);
         Ok(runs?)
     }

@@ -2,12 +2,14 @@
 ghost use Rattle.std.specs.Prelude.{◌≡◌, [], ◌∷◌, IfSome};
 ghost use Rattle.rbg_rules.specs.Meaning.{IsStateOf};
 ghost use Rattle.rbg_auto.specs.Steps.{AreAllThatFollow};
-ghost use Rattle.rbg_pairs.specs.Start.{start_of};
-ghost use Rattle.rbg_pairs.specs.Part.{IsTrialAt};
+ghost use Rattle.rbg_search.specs.Start.{start_of};
+ghost use Rattle.rbg_search.specs.Part.{IsTrialAt};
 
+use crate::game_steps::GameSteps;
+use crate::trials::tried;
 use rbg_auto::{Glance, Steps};
 use rbg_base::Position;
-use rbg_pairs::{GameSteps, Origin, tried};
+use rbg_shifts::Origin;
 use rbg_state::{SemiState, Trial};
 
 /// The position of the one action that may come next, where there is one alone and it is a modifier that is valid here.

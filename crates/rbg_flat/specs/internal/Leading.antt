@@ -1,10 +1,10 @@
 -- Sets that are led on by leaps.
 use Rattle.std.specs.Prelude.{◌≡◌, ◌⊎◌, ◌+◌, ◌*◌, ◌%◌, ◌<◌, ◌≤◌, ℕ, List, length, Bool, true, Contains}
 use Rattle.std.specs.Int.{bit_at}
-use Rattle.rbg_rules.specs.Meaning.{positions_of, AbstractGame, after}
+use Rattle.rbg_rules.specs.Meaning.{positions_of, AbstractGame}
 use Rattle.rbg_shifts.specs.declared.target.Target.{Target}
-use Rattle.rbg_shifts.specs.Leaps.{IsLeap, EndsAcross}
 use Rattle.rbg_shifts.specs.Limits.{row_words}
+use Rattle.rbg_flat.specs.Ways.{Way, IsLead, EndsLead}
 use Rattle.rbg_flat.specs.internal.Sets.{SetsOfVertices, IsInWord, IsMarked}
 
 -- The sets have a row for each position from 0 on, of at least as many words as the board takes, and at most 64.
@@ -45,33 +45,32 @@ pub record LearnsEnd (old new : Bool) (Ends : Type 0) : Type 0 where
 abbrev pub IsOnBoard : AbstractGame → (c word : ℕ) → Type 0
 IsOnBoard game c word = (b : ℕ) → bit_at word b ≡ 1 → c * 64 + b < length game.board.first
 
--- A leap leads to position p at vertex u, from after position q at one of the vertices of a word.
-pub record LeadsFrom (game : AbstractGame) (q c word u p : ℕ) : Type 0 where
+-- One is led to position p at vertex u, from position q at one of the vertices of a word.
+pub record LeadsFrom (way : Way) (game : AbstractGame) (q c word u p : ℕ) : Type 0 where
   pub vertex : ℕ
   pub there : IsInWord q c word vertex q
-  pub leap : IsLeap game (after q) vertex p u
+  pub lead : IsLead way game q vertex p u
 
--- A word may end with shifts alone after position q at one of the vertices of a word of bits.
-pub record EndsFrom (game : AbstractGame) (q c word : ℕ) : Type 0 where
+-- A word may end after position q at one of the vertices of a word of bits.
+pub record EndsFrom (way : Way) (game : AbstractGame) (q c word : ℕ) : Type 0 where
   pub vertex : ℕ
   pub there : IsInWord q c word vertex q
-  pub ends : EndsAcross game (after q) vertex
+  pub ends : EndsLead way game q vertex
 
 -- The same, but for the vertices that are still in the rest.
-pub record LeadsPast (game : AbstractGame) (q c word rest u p : ℕ) : Type 0 where
+pub record LeadsPast (way : Way) (game : AbstractGame) (q c word rest u p : ℕ) : Type 0 where
   pub vertex : ℕ
   pub there : IsInWord q c word vertex q
   pub past : bit_at rest (vertex % 64) ≡ 0
-  pub leap : IsLeap game (after q) vertex p u
+  pub lead : IsLead way game q vertex p u
 
-pub record EndsPast (game : AbstractGame) (q c word rest : ℕ) : Type 0 where
+pub record EndsPast (way : Way) (game : AbstractGame) (q c word rest : ℕ) : Type 0 where
   pub vertex : ℕ
   pub there : IsInWord q c word vertex q
   pub past : bit_at rest (vertex % 64) ≡ 0
-  pub ends : EndsAcross game (after q) vertex
+  pub ends : EndsLead way game q vertex
 
--- The vertex is in a word, and one of the targets is at the position.
-pub record IsAmongBits (targets : List Target) (c word v p : ℕ) : Type 0 where
-  pub target : Target
-  pub listed : Contains targets target
-  pub there : IsInWord target.position c word v p
+-- The vertex is in a word, and the position is one of these.
+pub record IsAmongBits (positions : List ℕ) (c word v p : ℕ) : Type 0 where
+  pub listed : Contains positions p
+  pub there : IsInWord p c word v p

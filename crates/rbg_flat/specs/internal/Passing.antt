@@ -1,14 +1,8 @@
 -- Where an action passes.
 use Rattle.std.specs.Prelude.{◌≡◌, ℕ, List, Contains, slice_get, Some}
 use Rattle.rbg_base.specs.declared.relation.Relation.{Relation}
-use Rattle.rbg_rules.specs.Meaning.{AbstractArithmetic, on, comparison, HasAction, IsModifierAt, AbstractGame, AbstractState, Applies}
-use Rattle.rbg_flat.specs.Chains.{at_vertex}
-
--- The action at position p is no modifier, and valid at vertex v.
-pub record Passes (game : AbstractGame) (s : AbstractState) (v p : ℕ) : Type 0 where
-  pub to : ℕ
-  pub quiet : ¬ IsModifierAt game.rules p
-  pub applies : Applies game p (at_vertex s v) (at_vertex s to)
+use Rattle.rbg_rules.specs.Meaning.{AbstractArithmetic, on, comparison, HasAction, IsModifierAt, AbstractGame, AbstractState}
+use Rattle.rbg_flat.specs.Chains.{Holds}
 
 -- One of the pieces stands on the vertex.
 pub record IsOneOf (wanted pieces : List ℕ) (v : ℕ) : Type 0 where
@@ -24,4 +18,4 @@ pub record IsToTry (game : AbstractGame) (s : AbstractState) (v p : ℕ) : Type 
   pub holds :
       (e : AbstractArithmetic) (r : Relation) (f : AbstractArithmetic) →
       HasAction game.rules p (comparison e r f) →
-      Passes game s v p
+      Holds game s v p

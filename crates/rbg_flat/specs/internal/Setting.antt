@@ -3,7 +3,8 @@ use Rattle.std.specs.Prelude.{ℕ}
 use Rattle.rbg_rules.specs.Meaning.{IsGame, IsStateOf, Start}
 use Rattle.rbg_flat.specs.declared.flat.Flat.{Flat}
 use Rattle.rbg_flat.specs.declared.setting.Setting.{Setting}
-use Rattle.rbg_flat.specs.Paths.{ArePathsOf}
+use Rattle.rbg_flat.specs.Paths.{ArePathsOf, way_of}
+use Rattle.rbg_flat.specs.Ways.{Way}
 use Rattle.rbg_flat.specs.internal.Begun.{IsBegun}
 use Rattle.rbg_flat.specs.internal.Leading.{AreSizedFor, AreOn, LearnsEnd}
 use Rattle.rbg_flat.specs.internal.Passing.{IsToTry}
@@ -14,6 +15,10 @@ pub record IsLawfulSetting (setting : Setting) : Type 0 where
   pub lawful : IsGame setting.game.now
   pub paths : ArePathsOf setting.game.now setting.paths.now
   pub fits : IsStateOf setting.game.now setting.state.now.state
+
+-- how flat parts are led on there
+abbrev pub way_in : Setting → Way
+way_in setting = way_of setting.paths.now
 
 -- All this is so, and the sets have the size that a flat part of the game takes.
 pub record AreReady (setting : Setting) (sets : SetsOfVertices) : Type 0 where
@@ -27,7 +32,7 @@ IsToTryIn setting = IsToTry setting.game.now setting.state.now.state
 -- A flat part has begun.
 abbrev pub HasBegun : Setting → Start → Flat → Type 0
 HasBegun setting f flat =
-    IsBegun setting.game.now setting.state.now.state f (IsMarked flat.sets) (IsOpen flat.sets) flat.ends
+    IsBegun (way_in setting) setting.game.now setting.state.now.state f (IsMarked flat.sets) (IsOpen flat.sets) flat.ends
 
 -- A flat part was led on: these vertices with positions were met, and it was learned whether a word ends.
 pub record LeadsOn (setting : Setting) (old new : Flat) (In : (v p : ℕ) → Type 0) (Ends : Type 0) : Type 0 where

@@ -1,5 +1,5 @@
 -- What the facts tell of an action of the program, and which are shifts or switches.
-use Rattle.std.specs.Prelude.{◌≡◌, ◌⊎◌, ℕ, List, [], ◌∷◌, Bool, true, false, IsTrue}
+use Rattle.std.specs.Prelude.{◌≡◌, ◌⊎◌, ℕ, List, [], ◌∷◌, Option, None, Some, Bool, true, false, IsTrue}
 use Rattle.rbg_rules.specs.declared.rule.Action.{Action}
 use Rattle.rbg_rules.specs.declared.rule.Action.TheVariants.{Shift, On, Off, Assign, Compare, Switch, Positive, Negative}
 use Rattle.rbg_flat.specs.declared.onward.Onward.{Onward}
@@ -50,6 +50,17 @@ shows_switch (Assign v e) = false
 shows_switch (Compare e r f) = false
 shows_switch Positive = false
 shows_switch Negative = false
+
+-- the direction of a shift
+abbrev pub direction_in : Action → Option ℕ
+direction_in (Shift d) = Some d
+direction_in (On pieces) = None
+direction_in (Off x) = None
+direction_in (Assign v e) = None
+direction_in (Compare e r f) = None
+direction_in (Switch n) = None
+direction_in Positive = None
+direction_in Negative = None
 
 -- What is told of an action at position p, where one may go on to it.
 abbrev pub ShowsOnward : ℕ → Action → Onward → Type 0

@@ -4,9 +4,11 @@ use Rattle.std.specs.Int.{bit_at}
 use Rattle.rbg_rules.specs.Meaning.{IsModifierAt, IsPatternAt, AbstractGame, AbstractState, Start}
 use Rattle.rbg_shifts.specs.declared.target.Target.{Target}
 use Rattle.rbg_flat.specs.declared.walk.Walk.{Walk}
+use Rattle.rbg_flat.specs.Chains.{Holds}
+use Rattle.rbg_flat.specs.Ways.{leaping}
 use Rattle.rbg_flat.specs.internal.Begun.{IsBegun}
 use Rattle.rbg_flat.specs.internal.Leading.{IsPositionIn}
-use Rattle.rbg_flat.specs.internal.Passing.{IsToTry, Passes}
+use Rattle.rbg_flat.specs.internal.Passing.{IsToTry}
 use Rattle.rbg_flat.specs.internal.Sets.{IsInWord}
 
 -- Neither a modifier nor a pattern stands at the position, and where what was met at the vertex is to be looked at, it
@@ -14,7 +16,7 @@ use Rattle.rbg_flat.specs.internal.Sets.{IsInWord}
 pub record IsPassage (game : AbstractGame) (s : AbstractState) (v p : ℕ) : Type 0 where
   pub quiet : ¬ IsModifierAt game.rules p
   pub plain : ¬ IsPatternAt game.rules p
-  pub passes : IsToTry game s v p → Passes game s v p
+  pub passes : IsToTry game s v p → Holds game s v p
 
 -- The target has one vertex, at which there is a passage, and it is told whether it is to be looked at there.
 pub record IsPassable (game : AbstractGame) (s : AbstractState) (t : Target) (opens : Bool) : Type 0 where
@@ -69,4 +71,4 @@ pub record TakesLast (old new : Walk) (v p : ℕ) : Type 0 where
 -- What was met on the walk is what may come next from f in the semi-state `here`, but for what follows from what waits.
 pub record Walks (game : AbstractGame) (s here : AbstractState) (f : Start) (walk : Walk) (ends : Bool) : Type 0 where
   pub is_walk : IsWalk game s walk
-  pub begun : IsBegun game here f (λ v p. Contains is_walk.pairs (v, p)) (IsWaiting walk) ends
+  pub begun : IsBegun leaping game here f (λ v p. Contains is_walk.pairs (v, p)) (IsWaiting walk) ends

@@ -3,7 +3,7 @@ use Rattle.std.specs.Prelude.{◌≡◌, ◌≢◌, ℕ, ◌-◌, ◌<◌, ◌�
 use Rattle.std.specs.List.Sorted.{IsPermutation}
 use Rattle.rbg_base.specs.Move.{most_pairs, IsMoveLength}
 use Rattle.rbg_rules.specs.Meaning.{Expression, IsSwitchAt, AbstractGame, AbstractPlace, point_of, IsLegal}
-use Rattle.rbg_pairs.specs.Flat.{IsFlatPart}
+use Rattle.rbg_search.specs.Flat.{IsFlatPart}
 use Rattle.rbg_search.specs.Searching.{Searching}
 use Rattle.rbg_moves.specs.internal.Asking.{CountsAnswer, question_of, is_cut}
 

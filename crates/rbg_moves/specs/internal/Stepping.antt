@@ -1,8 +1,8 @@
 -- One modifier of a move, and the place after it.
 use Rattle.std.specs.Prelude.{◌≡◌, ℕ, ◌<◌, List, [], length, false, Option, Some, None, Result, Err, IfOk, IfSome, OnOk}
 use Rattle.rbg_rules.specs.Meaning.{IsModifierAt, AbstractGame, AbstractState, Applies, AbstractPlace, Legal, point_of, IsPlaceOf, try_move, IsDeep, Start}
-use Rattle.rbg_pairs.specs.Flat.{IsNext}
-use Rattle.rbg_pairs.specs.Start.{IsPositionOf}
+use Rattle.rbg_search.specs.Flat.{IsNext}
+use Rattle.rbg_search.specs.Start.{IsPositionOf}
 use Rattle.rbg_search.specs.Counting.{CountsOpenings, IsOverBudget}
 use Rattle.rbg_search.specs.Forced.{CountsForced}
 use Rattle.rbg_search.specs.Searching.{Searching}

@@ -3,14 +3,14 @@ use Rattle.std.specs.Prelude.{◌≡◌, ◌≢◌, ℕ, ◌≤◌, List, [], �
 use Rattle.rbg_rules.specs.Meaning.{Expression, IsLevel, inside, Start, AbstractGame, AbstractState, IsGame, Question, reach, Item, modifier_at, pattern_at}
 use Rattle.rbg_state.specs.History.{History}
 use Rattle.rbg_flat.specs.Candidates.{MayEnd}
-use Rattle.rbg_pairs.specs.Flat.{IsNext}
+use Rattle.rbg_search.specs.Flat.{IsNext}
 use Rattle.rbg_search.specs.Counting.{CountsOpenings, IsOverBudget}
 use Rattle.rbg_search.specs.Passing.{CountsBeginning, IsTooDeep}
 use Rattle.rbg_search.specs.Searching.{Searching}
 use Rattle.rbg_search.specs.Taken.{CountsTaken}
 use Rattle.rbg_search.specs.declared.over.Over.{Over}
 use Rattle.rbg_search.specs.declared.over.Over.TheVariants.{Deep, Memory, Wide}
-use Rattle.rbg_pairs.specs.Nesting.{StandsIn}
+use Rattle.rbg_search.specs.Nesting.{StandsIn}
 
 -- One stands in the inside of a pattern.
 pub record StandsInPattern (rules : Expression) (f : Start) : Type 0 where

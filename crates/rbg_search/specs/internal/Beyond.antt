@@ -1,9 +1,9 @@
 -- What runs after the modifiers of a flat part.
 use Rattle.std.specs.Prelude.{◌<◌, ℕ, List, length, Contains}
 use Rattle.rbg_rules.specs.Meaning.{IsModifierAt, after, AbstractGame, AbstractState, Applies, SomeWordRuns}
-use Rattle.rbg_pairs.specs.Closure.{at_vertex}
-use Rattle.rbg_pairs.specs.Nesting.{NestsFrom}
-use Rattle.rbg_pairs.specs.Start.{IsPositionOf}
+use Rattle.rbg_search.specs.Closure.{at_vertex}
+use Rattle.rbg_search.specs.Nesting.{NestsFrom}
+use Rattle.rbg_search.specs.Start.{IsPositionOf}
 
 -- The pair is a modifier that is valid at its vertex, and after it patterns nest at most `limit` deep.
 pub record IsReady (game : AbstractGame) (s : AbstractState) (limit : ℕ) (pair : ℕ × ℕ) : Type 0 where

@@ -3,16 +3,17 @@ use Rattle.std.specs.Prelude.{◌↔◌, ℕ, ◌<◌, ◌≤◌, List, [], ◌�
 use Rattle.rbg_rules.specs.Meaning.{IsGame, IsPatternAt, Start, AbstractGame, AbstractState, Applies}
 use Rattle.rbg_state.specs.History.{History}
 use Rattle.rbg_flat.specs.declared.flat.Flat.{Flat}
+use Rattle.rbg_flat.specs.Ways.{Way}
 use Rattle.rbg_flat.specs.internal.Begun.{IsBegun}
 use Rattle.rbg_flat.specs.internal.Leading.{AreSizedFor, AreOn}
 use Rattle.rbg_flat.specs.internal.Sets.{IsMarked, IsOpen, IsDone, WaitsLast, weight}
 use Rattle.rbg_search.specs.Searching.{Searching}
-use Rattle.rbg_pairs.specs.Closure.{at_vertex}
+use Rattle.rbg_search.specs.Closure.{at_vertex}
 use Rattle.rbg_search.specs.internal.Finding.{Finds}
 
 -- What was found so far is right.
-pub record IsBegunBySets (game : AbstractGame) (s : AbstractState) (f : Start) (flat : Flat) : Type 0 where
-  pub begun : IsBegun game s f (IsMarked flat.sets) (IsOpen flat.sets) flat.ends
+pub record IsBegunBySets (way : Way) (game : AbstractGame) (s : AbstractState) (f : Start) (flat : Flat) : Type 0 where
+  pub begun : IsBegun way game s f (IsMarked flat.sets) (IsOpen flat.sets) flat.ends
 
 -- There are sets for the game, and all that was met is of the game.
 pub record HasSetsFor (game : AbstractGame) (flat : Flat) : Type 0 where
@@ -29,16 +30,16 @@ pub record AreAsked (game : AbstractGame) (flat : Flat) (pairs : List (ℕ × �
   pub all : (v p : ℕ) → IsPatternAt game.rules p → IsDone flat.sets v p → Contains pairs (v, p)
 
 -- A flat part is begun, and nothing was asked.
-pub record BeginsBySets (game : AbstractGame) (s : AbstractState) (f : Start) (flat : Flat) : Type 0 where
+pub record BeginsBySets (way : Way) (game : AbstractGame) (s : AbstractState) (f : Start) (flat : Flat) : Type 0 where
   pub lawful : IsGame game
   pub sets : HasSetsFor game flat
-  pub begun : IsBegunBySets game s f flat
+  pub begun : IsBegunBySets way game s f flat
   pub asked : AreAsked game flat []
 
 -- A flat part goes on, and nothing is asked.
-pub record AdvancesBySets (game : AbstractGame) (s : AbstractState) (old new : Flat) : Type 0 where
+pub record AdvancesBySets (way : Way) (game : AbstractGame) (s : AbstractState) (old new : Flat) : Type 0 where
   pub sets : HasSetsFor game new
-  pub begun : (f : Start) → IsBegunBySets game s f old → IsBegunBySets game s f new
+  pub begun : (f : Start) → IsBegunBySets way game s f old → IsBegunBySets way game s f new
   pub asked : (pairs : List (ℕ × ℕ)) → AreAsked game old pairs → AreAsked game new pairs
   pub lighter : weight new.sets ≤ weight old.sets
 
@@ -51,20 +52,20 @@ pub record IsToBeAsked (game : AbstractGame) (flat : Flat) (v p : ℕ) : Type 0 
   pub last : WaitsLast flat.sets v p
 
 -- It was asked, and the pattern is valid there or isn't.
-pub record TakesBySets (game : AbstractGame) (s : AbstractState) (old new : Flat) (v p : ℕ) (valid : Bool) : Type 0 where
+pub record TakesBySets (way : Way) (game : AbstractGame) (s : AbstractState) (old new : Flat) (v p : ℕ) (valid : Bool) : Type 0 where
   pub sets : HasSetsFor game new
   pub begun :
       (f : Start) →
       IsTrue valid ↔ Applies game p (at_vertex s v) (at_vertex s v) →
-      IsBegunBySets game s f old →
-      IsBegunBySets game s f new
+      IsBegunBySets way game s f old →
+      IsBegunBySets way game s f new
   pub asked : (pairs : List (ℕ × ℕ)) → AreAsked game old pairs → AreAsked game new (pairs ++ (v, p) ∷ [])
   pub lighter : weight new.sets < weight old.sets
 
 -- A search finds a flat part by sets. The pairs are the patterns that were asked.
-pub record FindsBySets (h k : Searching) (s l : History) (f : Start) (flat : Flat) : Type 0 where
+pub record FindsBySets (way : Way) (h k : Searching) (s l : History) (f : Start) (flat : Flat) : Type 0 where
   pub pairs : List (ℕ × ℕ)
   pub finds : Finds h k s l f pairs
   pub asked : AreAsked h.game flat pairs
   pub sets : HasSetsFor h.game flat
-  pub begun : IsBegunBySets h.game s.state f flat
+  pub begun : IsBegunBySets way h.game s.state f flat

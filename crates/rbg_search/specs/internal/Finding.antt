@@ -1,13 +1,11 @@
 -- A search that finds a flat part.
-use Rattle.std.specs.Prelude.{◌≡◌, ℕ, ◌+◌, ◌≤◌, List, All, Bool, take}
+use Rattle.std.specs.Prelude.{◌≡◌, ℕ, ◌+◌, ◌≤◌, List, All, Bool}
 use Rattle.rbg_rules.specs.Meaning.{IsGame, Start, reach}
 use Rattle.rbg_state.specs.History.{History}
-use Rattle.rbg_pairs.specs.declared.flat.Flat.{Flat}
 use Rattle.rbg_search.specs.Answered.{HasReached}
 use Rattle.rbg_search.specs.Searching.{Searching}
 use Rattle.rbg_search.specs.Taken.{CountsPairs}
 use Rattle.rbg_search.specs.internal.Asked.{CountsAsked}
-use Rattle.rbg_search.specs.internal.Begun.{IsBegun}
 use Rattle.rbg_search.specs.internal.Beyond.{IsReady}
 use Rattle.rbg_search.specs.internal.Spent.{IsSpent}
 use Rattle.rbg_search.specs.internal.Taking.{AsksForced}
@@ -24,11 +22,6 @@ pub record Finds (h k : Searching) (s l : History) (f : Start) (done : List (ℕ
   pub forced : (cut : Bool) → AsksForced h.game cut s.state done h.opened k.opened h.modifiers
   pub spent : IsSpent h.game h.opened h.taken
   pub taken : CountsPairs h.game reach s.state f (h.opened + 1) k.opened h.taken k.taken (Unit {0})
-
--- It is found by pairs.
-pub record FindsByPairs (h k : Searching) (s l : History) (f : Start) (flat : Flat) : Type 0 where
-  pub finds : Finds h k s l f (take flat.taken flat.queue.pairs)
-  pub begun : IsBegun h.game s.state f flat
 
 -- The flat part was found whole, and after each of its modifiers `nested` patterns at most stand one inside the other.
 pub record HasFound

@@ -1,10 +1,10 @@
 -- A straight line of actions that is scanned along.
 use Rattle.std.specs.Prelude.{◌≢◌, ℕ, ◌<◌, List, [], ◌∷◌, ◌++◌, All, AllPairs, Bool}
 use Rattle.rbg_rules.specs.Meaning.{IsPatternAt, Start, AbstractGame, AbstractState}
-use Rattle.rbg_pairs.specs.Flat.{IsFlatPart}
-use Rattle.rbg_pairs.specs.Closure.{IsReached}
-use Rattle.rbg_pairs.specs.Part.{IsPart}
-use Rattle.rbg_pairs.specs.Plain.{CountsPlain}
+use Rattle.rbg_search.specs.Flat.{IsFlatPart}
+use Rattle.rbg_search.specs.Closure.{IsReached}
+use Rattle.rbg_search.specs.Part.{IsPart}
+use Rattle.rbg_search.specs.Plain.{CountsPlain}
 use Rattle.rbg_search.specs.Taken.{HasMet}
 
 -- The flat part is whole: it has no modifier, no pattern may come in it, and `ends` tells whether a word may end.

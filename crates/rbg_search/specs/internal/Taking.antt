@@ -2,7 +2,7 @@
 use Rattle.std.specs.Prelude.{◌≡◌, ℕ, ◌+◌, ◌≤◌, List, [], ◌∷◌, length, Contains, Bool, false}
 use Rattle.rbg_rules.specs.Meaning.{IsNumbered, IsPatternAt, inside, beginning, AbstractGame, AbstractState, pattern, Item, pattern_at, Forced}
 use Rattle.rbg_search.specs.Forced.{HasFewInRow, TakesAfter}
-use Rattle.rbg_pairs.specs.Closure.{at_vertex}
+use Rattle.rbg_search.specs.Closure.{at_vertex}
 
 -- The empty list was taken up, and all that is forced in the patterns among the pairs that are done.
 pub record AsksForced

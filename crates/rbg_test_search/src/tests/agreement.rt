@@ -154,7 +154,7 @@ fn compare_by<'a, S: Steps>(
         alloc,
         game,
         steps,
-        paths: if seed % 4 < 2 { paths.as_ref() } else { None },
+        paths: if seed % 4 < 2 { Some(&paths) } else { None },
         played,
         rules,
     };

@@ -6,9 +6,8 @@ use crate::tests::meaning::Rules;
 use rbg_auto::Steps;
 use rbg_flat::Paths;
 use rbg_moves::PlayedGame;
-use rbg_pairs::GameSteps;
 use rbg_rules::Game;
-use rbg_search::{Budget, Buffers, Search};
+use rbg_search::{Budget, Buffers, GameSteps, Search};
 use std::alloc::Global;
 
 /// A game that was loaded, and the same game as the slow answers see it.

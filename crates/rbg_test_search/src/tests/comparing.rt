@@ -2,7 +2,7 @@
 ghost use Rattle.std.specs.Prelude.{◌<◌, ◌≤◌, length};
 ghost use Rattle.rbg_flat.specs.Paths.{ArePathsOf};
 ghost use Rattle.rbg_rules.specs.Meaning.{IsStart, positions_of, IsPatternAt};
-ghost use Rattle.rbg_pairs.specs.Start.{start_of};
+ghost use Rattle.rbg_search.specs.Start.{start_of};
 ghost use Rattle.rbg_test_search.specs.Asking.{IsSearchedAt};
 
 use crate::tests::asked::Asked;

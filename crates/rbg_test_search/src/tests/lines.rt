@@ -3,9 +3,8 @@ use rbg_auto::{Steps, compact};
 use rbg_base::Position;
 use rbg_flat::Paths;
 use rbg_game::load;
-use rbg_pairs::GameSteps;
 use rbg_rules::Game;
-use rbg_search::{Budget, Buffers, Onward, Search};
+use rbg_search::{Budget, Buffers, GameSteps, Onward, Search};
 use std::alloc::Global;
 use std::test::Fail;
 
@@ -40,7 +39,7 @@ fn knows_lines(alloc: Global, game: &Game) -> Result<bool, Fail> {
     let steps = compact(alloc, game)?;
     let paths = Paths::new(alloc, game, &steps)?;
     game.is_accepted();
-    let rules = GameSteps::new(game, &steps, paths.as_ref());
+    let rules = GameSteps::new(game, &steps, Some(&paths));
     let budget = Budget {
         openings: 1,
         modifiers: 1,

@@ -1,5 +1,5 @@
 use Rattle.rbg_base.proofs.Common.{◌≡◌, ℕ, true, false, sym, ◌∙◌, arith, bit_at, bit_at-zero}
-use Rattle.rbg_flat.specs.internal.Passing.{Passes}
+use Rattle.rbg_flat.specs.Chains.{Holds}
 use Rattle.rbg_flat.proofs.ModifierLemmas.{comparison_plain}
 use Rattle.rbg_flat.proofs.Passings.{compares_everywhere}
 use Rattle.rbg_flat.proofs.ToTry.{comparison_to_try}
@@ -25,5 +25,5 @@ pub returns-else-passes_at : goal.returns-else-passes_at
 returns-else-passes_at c = λ v b small.
     let s = c.args.state.now.state in
     let is = c.requires.stands in
-    let nowhere : Passes c.args.game.now s v c.args.position → ⊥ = λ passes. false_not_true (sym c.if-passes_at.false ∙ c.passes_at.ensures.1 (compares_everywhere c.args.game.now c.requires.lawful.numbered s c.args.position is.left is.relation is.right is.stands v c.vertex.result passes)) in
+    let nowhere : Holds c.args.game.now s v c.args.position → ⊥ = λ passes. false_not_true (sym c.if-passes_at.false ∙ c.passes_at.ensures.1 (compares_everywhere c.args.game.now c.requires.lawful.numbered s c.args.position is.left is.relation is.right is.stands v c.vertex.result passes)) in
     (λ set. absurd (no_bit b set), λ try. absurd (nowhere ((comparison_to_try c.args.game.now c.requires.lawful.numbered s c.args.position is v).1 try)))

@@ -1,11 +1,11 @@
 use Rattle.std.proofs.Common.{◌≡◌, ℕ, ◌+◌, ◌*◌, ◌⊎◌, inl, inr, subst}
-use Rattle.rbg_flat.proofs.Common.{IsKind, Kind, On, OnEither, Comparison, Passes, IsToTry}
+use Rattle.rbg_flat.proofs.Common.{IsKind, Kind, On, OnEither, Comparison, Holds, IsToTry}
 use Rattle.rbg_rules.specs.Meaning.{IsNumbered, AbstractGame, AbstractState}
 use Rattle.rbg_flat.proofs.ToTry.{tried_passes, comparison_to_try}
 use Rattle.rbg_flat.proofs.passing.held.Goals as goal
 
 -- What is to be looked at passes, where its kind tells at which vertices.
-passes : (game : AbstractGame) → IsNumbered game.rules → (s : AbstractState) (p : ℕ) (kind : Kind) → (kind ≡ On) ⊎ ((kind ≡ OnEither) ⊎ (kind ≡ Comparison)) → IsKind game.rules p kind → (v : ℕ) → IsToTry game s v p → Passes game s v p
+passes : (game : AbstractGame) → IsNumbered game.rules → (s : AbstractState) (p : ℕ) (kind : Kind) → (kind ≡ On) ⊎ ((kind ≡ OnEither) ⊎ (kind ≡ Comparison)) → IsKind game.rules p kind → (v : ℕ) → IsToTry game s v p → Holds game s v p
 passes game numbered s p kind (inl is) told v =
     let stands = subst (λ (k : Kind). IsKind game.rules p k) is told in
     tried_passes game numbered s p stands.0 stands.1 v

@@ -1,5 +1,5 @@
 use Rattle.std.proofs.Common.{◌≡◌, ℕ, ◌+◌, ◌*◌, sym, ◌∙◌, true, false}
-use Rattle.rbg_flat.specs.internal.Passing.{Passes}
+use Rattle.rbg_flat.specs.Chains.{Holds}
 use Rattle.rbg_flat.proofs.Passings.{stays, falls, still_left}
 use Rattle.rbg_flat.proofs.passing.passing.Goals as goal
 
@@ -8,7 +8,7 @@ false_not_true e = cc
 
 pub loop-rest-preserved-then-not-passes_at : goal.loop-rest-preserved-then-not-passes_at
 loop-rest-preserved-then-not-passes_at c =
-    let Good : ℕ → Type 0 = λ b. Passes c.args.game.now c.args.state.now.state (c.args.column * 64 + b) c.args.position in
+    let Good : ℕ → Type 0 = λ b. Holds c.args.game.now c.args.state.now.state (c.args.column * 64 + b) c.args.position in
     let is = c.loop-rest.invariant in
     let out = c.without-rest.ensures in
     record {
@@ -22,7 +22,7 @@ loop-rest-preserved-then-not-passes_at c =
 
 pub loop-rest-preserved : goal.loop-rest-preserved
 loop-rest-preserved c =
-    let Good : ℕ → Type 0 = λ b. Passes c.args.game.now c.args.state.now.state (c.args.column * 64 + b) c.args.position in
+    let Good : ℕ → Type 0 = λ b. Holds c.args.game.now c.args.state.now.state (c.args.column * 64 + b) c.args.position in
     let is = c.loop-rest.invariant in
     let out = c.without-rest.ensures in
     record {

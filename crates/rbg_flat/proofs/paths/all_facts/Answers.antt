@@ -1,9 +1,10 @@
-use Rattle.rbg_base.proofs.Common.{ap, ◌∙◌, length, arith, length_push}
-use Rattle.rbg_flat.proofs.Stills.{next_within, still_by, told_more}
+use Rattle.rbg_base.proofs.Common.{ap, ◌∙◌, length, arith, length_push, subst, sym}
+use Rattle.rbg_flat.proofs.Common.{Way, AreFacts, way_by}
+use Rattle.rbg_flat.proofs.Stills.{told_more}
 use Rattle.rbg_flat.proofs.paths.all_facts.Goals as goal
 
-pub facts_at-requires-clause-within : goal.facts_at-requires-clause-within
-facts_at-requires-clause-within g c = next_within c.args.game.now c.positions-count.ensures.lawful.numbered c.loop-index.index c.next.result.now (c.next.ensures c.args.game.now.rules c.requires)
+pub facts_at-requires-clause-next : goal.facts_at-requires-clause-next
+facts_at-requires-clause-next g c = c.next.ensures c.args.game.now.rules c.requires
 
 pub loop-index-preserved : goal.loop-index-preserved
 loop-index-preserved g c = record {
@@ -12,9 +13,6 @@ loop-index-preserved g c = record {
       let size = c.loop-index.invariant.size in
       omega (arith, long, size);
   told =
-      told_more c.args.game.now c.loop-index.facts.items c.push.new.self.items c.facts_at.result c.loop-index.index c.in_ok-push.ensures.items c.loop-index.invariant.size c.loop-index.invariant.told
-      (record {
-        still = λ is. still_by c.args.game.now c.loop-index.index c.next.result.now (c.next.ensures c.args.game.now.rules c.requires) (c.facts_at.ensures.still is);
-        shown = c.facts_at.ensures.shown;
-      });
+      told_more (AreFacts (way_by c.args.leaps.now) c.args.game.now) c.loop-index.facts.items c.push.new.self.items c.facts_at.result c.loop-index.index c.in_ok-push.ensures.items c.loop-index.invariant.size c.loop-index.invariant.told
+      (subst (λ (way : Way). AreFacts way c.args.game.now c.loop-index.index c.facts_at.result) (sym c.has_leaps-leaping.ensures) (record { still = c.facts_at.ensures.still; shown = c.facts_at.ensures.shown }));
 }

@@ -1,7 +1,7 @@
 use Rattle.rbg_base.proofs.Common.{◌≡◌, ℕ, suc, ◌+◌, ◌<◌, List, ◌∷◌, length, get_or, drop, sym, ap, ◌∙◌, subst, arith, drop_all}
 use Rattle.std.proofs.Math.Seq.{drop-cons}
 use Rattle.rbg_rules.specs.Meaning.{IsGame, AbstractGame, AbstractState, IsStateOf, Applies, AbstractPlace, point_of, Legal}
-use Rattle.rbg_pairs.specs.Flat.{IsNext}
+use Rattle.rbg_search.specs.Flat.{IsNext}
 use Rattle.rbg_state.specs.History.{History}
 use Rattle.rbg_state.proofs.Histories.{after_nothing, after_both}
 use Rattle.rbg_search.proofs.Asking.{after_room}

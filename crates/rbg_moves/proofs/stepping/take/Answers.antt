@@ -1,6 +1,6 @@
 use Rattle.rbg_base.proofs.Common.{◌≡◌, ◌<◌, ℕ, length, true, false, sym, ap, ◌∙◌, subst, List, Bool, Contains, Result, Ok, All-contains}
 use Rattle.rbg_rules.specs.Meaning.{AbstractGame, AbstractState, IsStateOf, Applies, point_of, Start, IsStart, reach}
-use Rattle.rbg_pairs.specs.Start.{start_of, IsPositionOf}
+use Rattle.rbg_search.specs.Start.{start_of, IsPositionOf}
 use Rattle.rbg_search.proofs.Common.{IsAnswered, HasReached, Searching, CountsPairs}
 use Rattle.rbg_search.specs.declared.over.Over.{Over}
 use Rattle.rbg_state.specs.History.{History}

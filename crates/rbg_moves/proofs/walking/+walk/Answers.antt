@@ -4,7 +4,7 @@ use Rattle.rbg_base.specs.Move.{most_pairs}
 use Rattle.rbg_rules.specs.Meaning.{AbstractGame, IsStateOf, IsStart, IsPlaceOf, AbstractPlace, point_of}
 use Rattle.rbg_state.specs.History.{History, IsAfter}
 use Rattle.rbg_state.proofs.Histories.{after_nothing, after_both}
-use Rattle.rbg_pairs.specs.Start.{start_of, IsPositionOf}
+use Rattle.rbg_search.specs.Start.{start_of, IsPositionOf}
 use Rattle.rbg_search.specs.Searching.{Searching}
 use Rattle.rbg_search.proofs.Asking.{after_room, room_twice}
 use Rattle.rbg_search.proofs.Kept.{kept_since, kept_twice, onward_rules}

@@ -1,6 +1,6 @@
 use Rattle.rbg_base.proofs.Common.{◌≡◌, ℕ, ◌*◌, ◌<◌, ◌≤◌, length, arith, sym, ◌∙◌, mul-le}
 use Rattle.rbg_rules.specs.Meaning.{positions_of}
-use Rattle.rbg_pairs.specs.Start.{IsPositionOf}
+use Rattle.rbg_search.specs.Start.{IsPositionOf}
 use Rattle.rbg_state.specs.declared.state.trials.Trial.TheVariants.{Invalid, LeadsTo}
 use Rattle.rbg_search.proofs.Straights.{one_within, is_empty_list, trial_there, begin_scan, not_done, told_up_to, told_through, scanned_on}
 use Rattle.rbg_search.proofs.scan.scan_inside.Goals as goal

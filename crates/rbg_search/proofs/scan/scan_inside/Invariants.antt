@@ -1,7 +1,7 @@
 -- One pair is left, and it stands after all that were tried.
 use Rattle.std.proofs.Common.{◌<◌, ◌-◌, ◌^◌, length}
 use Rattle.rbg_rules.specs.Meaning.{inside, beginning}
-use Rattle.rbg_pairs.proofs.Common.{IsPositionOf, at_vertex}
+use Rattle.rbg_search.proofs.Along.{IsPositionOf, at_vertex}
 use Rattle.rbg_search.specs.internal.Straight.{IsScanning}
 use Rattle.rbg_search.proofs.scan.scan_inside.Given as goal
 

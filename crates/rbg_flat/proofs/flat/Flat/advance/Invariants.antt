@@ -1,7 +1,7 @@
 -- What was found so far is right.
 use Rattle.std.proofs.Common.{ℕ, ◌≤◌}
 use Rattle.rbg_rules.specs.Meaning.{IsPatternAt, Start}
-use Rattle.rbg_flat.proofs.Common.{IsBegun, AreSizedFor, AreOn, IsMarked, IsOpen, IsDone, KeepsDone, weight}
+use Rattle.rbg_flat.proofs.Common.{way_of, IsBegun, AreSizedFor, AreOn, IsMarked, IsOpen, IsDone, KeepsDone, weight}
 use Rattle.rbg_flat.proofs.flat.Flat.advance.Given as goal
 
 abbrev pub invariant-loop-place : goal.invariant-loop-place
@@ -10,8 +10,8 @@ invariant-loop-place l = record {
   on : AreOn l.game l.self.sets;
   begun :
       (f : Start) →
-      IsBegun l.game l.state.state f (IsMarked l.fn.self.sets) (IsOpen l.fn.self.sets) l.fn.self.ends →
-      IsBegun l.game l.state.state f (IsMarked l.self.sets) (IsOpen l.self.sets) l.self.ends;
+      IsBegun (way_of l.paths) l.game l.state.state f (IsMarked l.fn.self.sets) (IsOpen l.fn.self.sets) l.fn.self.ends →
+      IsBegun (way_of l.paths) l.game l.state.state f (IsMarked l.self.sets) (IsOpen l.self.sets) l.self.ends;
   still_done : KeepsDone l.fn.self.sets l.self.sets;
   quiet : (v p : ℕ) → IsPatternAt l.game.rules p → IsDone l.self.sets v p → IsDone l.fn.self.sets v p;
   lighter : weight l.self.sets ≤ weight l.fn.self.sets;

@@ -1,6 +1,6 @@
 use Rattle.std.proofs.Common.{ℕ, ◌<◌, length, false, subst, sym}
-use Rattle.rbg_shifts.proofs.Common.{IsLeap, EndsAcross, start_of}
-use Rattle.rbg_flat.proofs.Common.{LearnsEnd, IsToTry, Meets}
+use Rattle.rbg_shifts.proofs.Common.{start_of}
+use Rattle.rbg_flat.proofs.Common.{EndsFirst, IsFirstLead, LearnsEnd, IsToTry, Meets, way_of}
 use Rattle.rbg_flat.proofs.Doing.{nothing_done}
 use Rattle.rbg_flat.proofs.Takings.{begins}
 use Rattle.rbg_flat.proofs.ToTry.{pattern_to_try}
@@ -13,9 +13,10 @@ pub returns-clause-begun : goal.returns-clause-begun
 returns-clause-begun c =
     let f = start_of c.args.origin in
     let s = c.args.state.now.state in
-    begins c.args.game.now c.requires.lawful s c.requires.fits f c.clear.new.self c.lead.new.self.sets c.lead.new.self.ends c.clear.ensures.none c.clear.ensures.closed
-    (subst (λ (k : ℕ). Meets c.clear.new.self c.lead.new.self.sets (λ v p. IsLeap c.args.game.now f k p v) (IsToTry c.args.game.now s)) c.vertex.ensures c.lead.ensures.met)
-    (subst (λ (k : ℕ). LearnsEnd false c.lead.new.self.ends (EndsAcross c.args.game.now f k)) c.vertex.ensures c.lead.ensures.ends)
+    let way = way_of c.args.paths.now in
+    begins way c.args.game.now c.requires.lawful s c.requires.fits f c.clear.new.self c.lead.new.self.sets c.lead.new.self.ends c.clear.ensures.none c.clear.ensures.closed
+    (subst (λ (k : ℕ). Meets c.clear.new.self c.lead.new.self.sets (λ v p. IsFirstLead way c.args.game.now f k p v) (IsToTry c.args.game.now s)) c.vertex.ensures c.lead.ensures.met)
+    (subst (λ (k : ℕ). LearnsEnd false c.lead.new.self.ends (EndsFirst way c.args.game.now f k)) c.vertex.ensures c.lead.ensures.ends)
 
 pub returns-clause-fresh : goal.returns-clause-fresh
 returns-clause-fresh c = λ v p pattern done.

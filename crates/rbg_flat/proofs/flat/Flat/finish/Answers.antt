@@ -1,8 +1,8 @@
 use Rattle.std.proofs.Common.{ℕ, ◌+◌, List, refl, sym, subst}
-use Rattle.rbg_flat.proofs.Common.{Gathered, HasBitAt}
+use Rattle.rbg_flat.proofs.Common.{Gathered, HasBitAt, way_of}
 use Rattle.rbg_flat.proofs.Leaping.{same_size}
 use Rattle.rbg_flat.proofs.Countings.{few_met, both_fit}
-use Rattle.rbg_flat.proofs.Finishings.{gathered_none, gathered_more, count_fits, are_found, has_candidates, few_gathered, rest_counted, all_candidates}
+use Rattle.rbg_flat.proofs.Finishings.{gathered_none, gathered_more, count_fits, are_found, has_pairs, few_gathered, rest_counted, all_pairs}
 use Rattle.rbg_flat.proofs.flat.Flat.finish.Goals as goal
 
 pub loop-place-init : goal.loop-place-init
@@ -34,11 +34,11 @@ loop-place-preserved c =
 
 pub returns-clause-found : goal.returns-clause-found
 returns-clause-found c = λ f is.
-    are_found c.args.game.now c.requires.lawful c.args.state.now.state c.args.self.now.sets c.requires.on f c.args.self.now.ends c.loop-place.self.sets c.loop-place.found c.loop-place.many is c.requires.done c.in_default.ensures.none c.loop-place.invariant.gathered
+    are_found c.args.game.now c.requires.lawful c.args.state.now.state c.args.self.now.sets c.requires.on (way_of c.args.paths.now) f c.args.self.now.ends c.loop-place.self.sets c.loop-place.found c.loop-place.many is c.requires.done c.in_default.ensures.none c.loop-place.invariant.gathered
 
 pub returns-clause-count : goal.returns-clause-count
 returns-clause-count c = λ f is.
-    has_candidates c.args.game.now c.requires.lawful c.args.state.now.state c.args.self.now.sets c.requires.on f c.args.self.now.ends c.loop-place.self.sets c.loop-place.found c.loop-place.many is c.requires.done c.in_default.ensures.none c.loop-place.invariant.gathered
+    has_pairs c.args.game.now c.requires.lawful c.args.state.now.state c.args.self.now.sets c.requires.on (way_of c.args.paths.now) f c.args.self.now.ends c.loop-place.self.sets c.loop-place.found c.loop-place.many is c.requires.done c.in_default.ensures.none c.loop-place.invariant.gathered
 
 pub returns-clause-few : goal.returns-clause-few
 returns-clause-few c = few_gathered c.args.game.now c.requires.lawful c.args.state.now.state c.args.self.now.sets c.requires.on c.loop-place.self.sets c.loop-place.found c.loop-place.many c.loop-place.invariant.gathered
@@ -57,7 +57,7 @@ returns-in_default-gather_place-clause-count_lost c = λ f is.
     let game = c.args.game.now in
     let first = c.args.self.now.sets in
     let all = rest_counted game c.args.state.now.state first c.loop-place.self.sets c.loop-place.found c.loop-place.many c.count_met-rest.result c.loop-place.invariant.gathered c.count_met-rest.ensures.count in
-    all_candidates game c.requires.lawful c.args.state.now.state first f c.args.self.now.ends is c.requires.done (c.loop-place.many + c.count_met-rest.result) all
+    all_pairs (way_of c.args.paths.now) game c.requires.lawful c.args.state.now.state first f c.args.self.now.ends is c.requires.done (c.loop-place.many + c.count_met-rest.result) all
 
 pub returns-in_default-gather_place-clause-few_lost : goal.returns-in_default-gather_place-clause-few_lost
 returns-in_default-gather_place-clause-few_lost c =

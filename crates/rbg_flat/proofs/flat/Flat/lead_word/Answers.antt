@@ -1,37 +1,11 @@
-use Rattle.rbg_flat.specs.internal.Setting.{IsToTryIn}
-use Rattle.rbg_flat.proofs.Takings.{goes_on}
-use Rattle.rbg_flat.proofs.Wordwise.{meets_bit, ends_bit, meets_all, ends_all}
+use Rattle.std.proofs.Common.{sym, subst}
+use Rattle.rbg_flat.proofs.Common.{Way, EndsFrom, LeadsFrom, LeadsOn}
 use Rattle.rbg_flat.proofs.flat.Flat.lead_word.Goals as goal
 
-pub lead-requires-clause-stands : goal.lead-requires-clause-stands
-lead-requires-clause-stands c = goes_on c.args.setting.now.game.now.rules c.args.position c.action-action.result.now c.action-action.ensures
+pub leap_word-requires-clause-leaps : goal.leap_word-requires-clause-leaps
+leap_word-requires-clause-leaps c = c.in-Some.ensures.some.1 c.args.setting.now.game.now c.requires.ready.set.paths
 
-pub loop-rest-preserved : goal.loop-rest-preserved
-loop-rest-preserved c =
+pub returns-in-Some : goal.returns-in-Some
+returns-in-Some c =
     let game = c.args.setting.now.game.now in
-    let opens = IsToTryIn c.args.setting.now in
-    let is = c.loop-rest.invariant in
-    let led = c.lead.ensures in
-    let out = c.without-rest.ensures in
-    let set = is.rest_in c.lowest-bit.result c.lowest-bit.ensures.set in
-    record {
-      rest_in = λ b there. is.rest_in b (out.only b there);
-      led = record {
-        sized = led.sized;
-        met = meets_bit game c.args.position c.args.column c.args.word opens c.loop-rest.rest c.lowest-bit.result c.without-rest.result c.lowest-bit.ensures.small set out.gone out.only out.others c.args.self.now.sets c.loop-rest.self.sets c.lead.new.self.sets is.led.met led.met;
-        ends = ends_bit game c.args.position c.args.column c.args.word opens c.loop-rest.rest c.lowest-bit.result c.without-rest.result c.lowest-bit.ensures.small set out.gone out.only out.others c.args.self.now.ends c.loop-rest.self.ends c.lead.new.self.ends is.led.ends led.ends;
-        on = λ on. led.on (is.led.on on);
-      };
-    }
-
-pub returns : goal.returns
-returns c =
-    let game = c.args.setting.now.game.now in
-    let opens = IsToTryIn c.args.setting.now in
-    let led = c.loop-rest.invariant.led in
-    record {
-      sized = led.sized;
-      met = meets_all game c.args.position c.args.column c.args.word opens c.loop-rest.rest c.loop-rest-test.false c.args.self.now.sets c.loop-rest.self.sets led.met;
-      ends = ends_all game c.args.position c.args.column c.args.word opens c.loop-rest.rest c.loop-rest-test.false c.args.self.now.ends c.loop-rest.self.ends led.ends;
-      on = led.on;
-    }
+    subst (λ (way : Way). LeadsOn c.args.setting.now c.args.self.now c.leap_word.new.self (LeadsFrom way game c.args.position c.args.column c.args.word) (EndsFrom way game c.args.position c.args.column c.args.word)) (sym c.in-Some.ensures.some.0) c.leap_word.ensures

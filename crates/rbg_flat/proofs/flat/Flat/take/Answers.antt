@@ -1,7 +1,7 @@
 use Rattle.std.proofs.Common.{◌≡◌, ℕ, ◌+◌, ◌*◌, ◌/◌, inl, inr, true, false, refl, sym, ◌∙◌, arith}
-use Rattle.rbg_flat.specs.internal.Passing.{Passes}
+use Rattle.rbg_flat.specs.Chains.{Holds}
 use Rattle.rbg_flat.proofs.Doing.{this_or_not}
-use Rattle.rbg_flat.proofs.Takings.{held_by, holds_passes}
+use Rattle.rbg_flat.proofs.Takings.{held_by, holds_same}
 use Rattle.rbg_flat.proofs.flat.Flat.take.Goals.{then-valid, else-valid}
 use Rattle.rbg_flat.proofs.flat.Flat.take.Goals as goal
 
@@ -20,8 +20,8 @@ returns-clause-begun c = λ f told is.
     (λ b small set.
     let bit = c.unit_word-word.ensures.only b set in
     let same : vertex / 64 * 64 + b ≡ vertex = omega (arith, bit) in
-    held_by c.args.valid c.if-valid.held word b (Passes c.args.game.now s (vertex / 64 * 64 + b) p)
-    (holds_passes c.args.game.now c.requires.lawful.numbered s f vertex p (vertex / 64 * 64 + b) (c.args.valid ≡ true) (is.sound vertex p c.requires.marked) same told)
+    held_by c.args.valid c.if-valid.held word b (Holds c.args.game.now s (vertex / 64 * 64 + b) p)
+    (holds_same c.args.game.now s vertex p (vertex / 64 * 64 + b) (c.args.valid ≡ true) same told)
     whole none set)
     is
 

@@ -1,5 +1,5 @@
 use Rattle.std.proofs.Common.{◌≡◌}
-use Rattle.rbg_flat.proofs.Common.{LeadsFrom, IsToTryIn}
+use Rattle.rbg_flat.proofs.Common.{LeadsFrom, IsToTryIn, way_in}
 use Rattle.rbg_flat.proofs.Leaping.{same_on}
 use Rattle.rbg_flat.proofs.Trying.{word_done, marked_bits, leads_nowhere, ends_nowhere}
 use Rattle.rbg_flat.proofs.Doing.{meets_done, meets_quiet, closes_quiet, closes_done, closed_in}
@@ -12,7 +12,7 @@ lead_word-requires-clause-board c = λ b set. c.requires.board b (c.requires.wit
 
 pub returns-then-held-ne0-clause-begun : goal.returns-then-held-ne0-clause-begun
 returns-then-held-ne0-clause-begun c = λ f told is.
-    word_done c.args.setting.now.game.now c.requires.ready.set.lawful c.args.setting.now.state.now.state c.requires.ready.set.fits f
+    word_done (way_in c.args.setting.now) c.args.setting.now.game.now c.requires.ready.set.lawful c.args.setting.now.state.now.state c.requires.ready.set.fits f
     c.args.self.now.sets c.close_word.new.self c.lead_word.new.self.sets c.args.self.now.ends c.lead_word.new.self.ends
     c.args.position c.args.column c.args.word c.args.held
     c.close_word.ensures c.requires.marked c.lead_word.ensures.met c.lead_word.ensures.ends c.requires.within told is
@@ -20,12 +20,12 @@ returns-then-held-ne0-clause-begun c = λ f told is.
 pub returns-else-held-ne0-clause-begun : goal.returns-else-held-ne0-clause-begun
 returns-else-held-ne0-clause-begun c = λ f told is.
     let none : c.args.held ≡ 0 = c.if-held-ne0.false in
-    word_done c.args.setting.now.game.now c.requires.ready.set.lawful c.args.setting.now.state.now.state c.requires.ready.set.fits f
+    word_done (way_in c.args.setting.now) c.args.setting.now.game.now c.requires.ready.set.lawful c.args.setting.now.state.now.state c.requires.ready.set.fits f
     c.args.self.now.sets c.close_word.new.self c.close_word.new.self c.args.self.now.ends c.args.self.now.ends
     c.args.position c.args.column c.args.word c.args.held
     c.close_word.ensures c.requires.marked
-    (leads_nowhere c.args.setting.now.game.now c.close_word.new.self c.args.held c.args.position c.args.column (IsToTryIn c.args.setting.now) none)
-    (ends_nowhere c.args.setting.now.game.now c.args.self.now.ends c.args.held c.args.position c.args.column none)
+    (leads_nowhere (way_in c.args.setting.now) c.args.setting.now.game.now c.close_word.new.self c.args.held c.args.position c.args.column (IsToTryIn c.args.setting.now) none)
+    (ends_nowhere (way_in c.args.setting.now) c.args.setting.now.game.now c.args.self.now.ends c.args.held c.args.position c.args.column none)
     c.requires.within told is
 
 pub returns-then-held-ne0-clause-on : goal.returns-then-held-ne0-clause-on
@@ -36,7 +36,7 @@ returns-else-held-ne0-clause-on c = same_on c.args.setting.now.game.now c.args.s
 
 pub returns-then-held-ne0-clause-still_done : goal.returns-then-held-ne0-clause-still_done
 returns-then-held-ne0-clause-still_done c = λ v p done.
-    meets_done c.close_word.new.self c.lead_word.new.self.sets (LeadsFrom c.args.setting.now.game.now c.args.position c.args.column c.args.held) (IsToTryIn c.args.setting.now) c.lead_word.ensures.met v p
+    meets_done c.close_word.new.self c.lead_word.new.self.sets (LeadsFrom (way_in c.args.setting.now) c.args.setting.now.game.now c.args.position c.args.column c.args.held) (IsToTryIn c.args.setting.now) c.lead_word.ensures.met v p
     (closes_done c.args.self.now.sets c.close_word.new.self c.args.position c.args.column c.args.word c.close_word.ensures v p done)
 
 pub returns-else-held-ne0-clause-still_done : goal.returns-else-held-ne0-clause-still_done
@@ -44,7 +44,7 @@ returns-else-held-ne0-clause-still_done c = closes_done c.args.self.now.sets c.c
 
 pub returns-then-held-ne0-clause-done : goal.returns-then-held-ne0-clause-done
 returns-then-held-ne0-clause-done c = λ v there.
-    meets_done c.close_word.new.self c.lead_word.new.self.sets (LeadsFrom c.args.setting.now.game.now c.args.position c.args.column c.args.held) (IsToTryIn c.args.setting.now) c.lead_word.ensures.met v c.args.position
+    meets_done c.close_word.new.self c.lead_word.new.self.sets (LeadsFrom (way_in c.args.setting.now) c.args.setting.now.game.now c.args.position c.args.column c.args.held) (IsToTryIn c.args.setting.now) c.lead_word.ensures.met v c.args.position
     (closed_in c.args.self.now.sets c.close_word.new.self c.args.position c.args.column c.args.word c.close_word.ensures v there (marked_bits c.args.self.now.sets c.args.position c.args.column c.args.word c.requires.marked v there))
 
 pub returns-else-held-ne0-clause-done : goal.returns-else-held-ne0-clause-done
@@ -54,7 +54,7 @@ returns-else-held-ne0-clause-done c = λ v there.
 pub returns-then-held-ne0-clause-quiet : goal.returns-then-held-ne0-clause-quiet
 returns-then-held-ne0-clause-quiet c = λ v p pattern apart done.
     closes_quiet c.args.self.now.sets c.close_word.new.self c.args.position c.args.column c.args.word c.close_word.ensures v p apart
-    (meets_quiet c.close_word.new.self c.lead_word.new.self.sets (LeadsFrom c.args.setting.now.game.now c.args.position c.args.column c.args.held) (IsToTryIn c.args.setting.now) c.lead_word.ensures.met v p (pattern_to_try c.args.setting.now.game.now c.requires.ready.set.lawful.numbered c.args.setting.now.state.now.state p pattern v) done)
+    (meets_quiet c.close_word.new.self c.lead_word.new.self.sets (LeadsFrom (way_in c.args.setting.now) c.args.setting.now.game.now c.args.position c.args.column c.args.held) (IsToTryIn c.args.setting.now) c.lead_word.ensures.met v p (pattern_to_try c.args.setting.now.game.now c.requires.ready.set.lawful.numbered c.args.setting.now.state.now.state p pattern v) done)
 
 pub returns-else-held-ne0-clause-quiet : goal.returns-else-held-ne0-clause-quiet
 returns-else-held-ne0-clause-quiet c = λ v p pattern apart done. closes_quiet c.args.self.now.sets c.close_word.new.self c.args.position c.args.column c.args.word c.close_word.ensures v p apart done

@@ -2,7 +2,7 @@
 use Rattle.rbg_base.proofs.Common.{◌≡◌, ℕ, ◌+◌, ◌<◌, List, ◌∷◌, [], ◌++◌, length, true, false, refl, sym, ap, subst, ◌∙◌, arith, length-append, All, IsPermutation, All-nil, All-push}
 use Rattle.std.proofs.lemmas.List.Sorted.{IsPermutation-refl}
 use Rattle.rbg_rules.specs.Meaning.{IsSwitchAt}
-use Rattle.rbg_pairs.specs.Start.{IsPositionOf}
+use Rattle.rbg_search.specs.Start.{IsPositionOf}
 use Rattle.rbg_search.proofs.Turns.{turn_moves, turn_after, turn_fewer}
 use Rattle.rbg_moves.specs.internal.Gathering.{AddsMove, ListsSwitches}
 use Rattle.rbg_moves.proofs.Listing.{lists_none, lists_more, lists_cut, lists_all, lists_any, left_over}

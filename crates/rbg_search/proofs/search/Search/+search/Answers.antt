@@ -1,14 +1,13 @@
-use Rattle.rbg_base.proofs.Common.{rules, ◌≡◌, ℕ, ◌^◌, ◌<◌, ◌≤◌, List, length, take, Bool, sym, ap, ◌∙◌, subst, arith, [], ◌∷◌, ◌++◌, ◌-◌, refl, false, true, IsTrue, ◌↔◌, All, Contains, All-contains}
+use Rattle.rbg_base.proofs.Common.{rules, ◌≡◌, ℕ, ◌<◌, ◌≤◌, List, sym, ap, subst, arith, [], ◌∷◌, ◌++◌, ◌-◌, refl, false, true, IsTrue, ◌↔◌, All, All-contains}
 use Rattle.rbg_rules.specs.Meaning.{inside, IsPatternAt, Start, beginning, after, AbstractState, IsStateOf, Applies, SomeWordRuns, pattern, IsStart}
-use Rattle.rbg_state.specs.History.{History}
-use Rattle.rbg_pairs.proofs.Common.{IsFlatPart, start_of, at_vertex, IsReached, NestsFrom, HasMarksOf}
+use Rattle.rbg_search.proofs.Along.{start_of, at_vertex, NestsFrom}
 use Rattle.rbg_flat.specs.Paths.{ArePathsOf}
-use Rattle.rbg_search.proofs.Common.{IsBegun, HasSetsFor, IsWhole, IsToBeAsked, FindsByPairs, IsReady, RunsAfterPair, SomeRunsAfter, StandsInPattern, CountsForced, RanAfter, Deep, Wide, Memory, Searching}
+use Rattle.rbg_search.proofs.Common.{HasSetsFor, IsWhole, IsToBeAsked, IsReady, RunsAfterPair, SomeRunsAfter, StandsInPattern, CountsForced, RanAfter, Deep, Wide, Searching}
 use Rattle.rbg_search.proofs.Asking.{back, mark_within, given_room, runs_one, runs_here, runs_there}
 use Rattle.rbg_search.proofs.Afters.{all_ready}
 use Rattle.rbg_search.proofs.Turns.{turn_fewer, turn_after, turn_there, turn_end, turn_some, none_of_all, ran_permuted}
 use Rattle.std.proofs.lemmas.List.Sorted.{IsPermutation-refl}
-use Rattle.rbg_search.proofs.Kept.{onward, before, onward_rules, rules_before, further_on}
+use Rattle.rbg_search.proofs.Kept.{onward, before, onward_rules, rules_before}
 use Rattle.rbg_search.proofs.Afters.{runs_at_end}
 use Rattle.rbg_search.proofs.Counted.{search_before}
 use Rattle.rbg_search.proofs.Forcing.{word_forced}
@@ -17,7 +16,7 @@ use Rattle.rbg_search.proofs.Patterns.{pattern_inside, inside_start}
 use Rattle.rbg_search.proofs.Counted.{memory_not_deep, memory_not_wide, ok_not_err}
 use Rattle.rbg_search.proofs.CountedSteps.{not_memory, inside_pairs}
 use Rattle.rbg_search.proofs.Asks.{asked_since, found_since, handed_on, answered_on, not_entered, as_pattern, asked_there, asked_after, asked_same}
-use Rattle.rbg_search.proofs.Finding.{IsNextPair, finds_none, finds_room, finds_asked, finds_refused, asks_within, reached_next, pairs_begun, begun_now, pairs_on, pairs_stopped, pairs_left, pairs_lost, pairs_dropped, pairs_more, pairs_forced, pairs_own}
+use Rattle.rbg_search.proofs.Finding.{finds_none, finds_room, finds_asked, finds_refused, asks_within}
 use Rattle.rbg_search.proofs.FindingBySets.{sets_begun, sets_on, sets_now, reached_here, sets_left, sets_lost, sets_more, sets_forced, sets_part, sets_own}
 use Rattle.rbg_search.proofs.Orders.{positions_within}
 use Rattle.rbg_search.proofs.Trying.{tries_none, tries_end, tries_deep, tries_failed, tries_yes, tries_grow, tries_more}
@@ -44,7 +43,7 @@ pub ask-word_runs-runs-requires : goal.ask-word_runs-runs-requires
 ask-word_runs-runs-requires g t c κs within =
     let fits : IsStateOf c.args.self.now.game c.stand.new.state.state = c.stand.ensures.fits c.args.self.now.game c.requires.fits in
     let nested : NestsFrom c.args.self.now.game.rules (c.args.nested - 1) (beginning (inside c.args.position)) = c.requires.nested (c.args.nested - 1) (omega (arith, c.requires.some)) in
-    (search rules, (within, (fits, (nested, pattern_inside c.args.self.now.game.rules c.args.position c.requires.there))))
+    (search rules, (within, (c.requires.paths, (fits, (nested, pattern_inside c.args.self.now.game.rules c.args.position c.requires.there)))))
 
 pub ask-answer-requires-clause-few : goal.ask-answer-requires-clause-few
 ask-answer-requires-clause-few g t c = c.in-Some.ensures.taken.few
@@ -74,279 +73,112 @@ ask-returns-clause-asked g t c =
     (given_room c.args.state.now c.stand.new.state c.word_runs-runs.new.state c.undo_to.new.self c.stand.ensures.capacity c.word_runs-runs.ensures.asked.given_back c.word_runs-runs.ensures.asked.room c.undo_to.ensures.capacity given) in
     answered_on there c.in_ok-runs.field-0 c.is_valid.result c.in_ok-runs.was
 
--- ---- a flat part by pairs
+-- ---- a flat part
 
-pub pairs_part-begun-requires : goal.pairs_part-begun-requires
-pairs_part-begun-requires g t c =
-    let fits : IsStateOf c.enter.new.self.game c.enter.new.state.state = onward IsStateOf c.args.self.now c.enter.new.self c.args.state.now c.enter.new.state c.enter.ensures.kept c.enter.ensures.given_back c.requires.fits in
-    let under : c.enter.new.state.state.vertex < length c.enter.new.state.state.pieces = fits.vertex in
-    let size : length c.enter.new.state.state.pieces ≡ length c.enter.new.self.game.board.first = fits.vertices in
-    omega (arith, under, size, c.vertex.ensures)
+pub flat_part-begun_by_sets-requires-clause-paths : goal.flat_part-begun_by_sets-requires-clause-paths
+flat_part-begun_by_sets-requires-clause-paths g t c = onward_rules (λ x. ArePathsOf x c.args.paths.now) c.args.self.now c.enter.new.self c.enter.ensures.kept c.requires.paths
 
-pub pairs_part-returns-in_err-enter-clause-asked : goal.pairs_part-returns-in_err-enter-clause-asked
-pairs_part-returns-in_err-enter-clause-asked g t c =
-    not_entered c.args.self.now c.enter.new.self c.args.state.now c.enter.new.state (start_of c.args.origin) c.enter.result c.from_residual.result c.in_err-enter.field-0.0 c.in_err-enter.was c.from_residual.ensures.1 c.enter.ensures.kept c.enter.ensures.given_back c.enter.ensures.room
-    (c.enter.ensures.counts c.args.state.now.state (start_of c.args.origin) c.requires.start) (c.in_err-enter.ensures.lost c.args.state.now.state (start_of c.args.origin))
-
-pub pairs_part-returns-in_err-flat-clause-asked : goal.pairs_part-returns-in_err-flat-clause-asked
-pairs_part-returns-in_err-flat-clause-asked g t c =
-    finds_refused
-    (finds_none c.args.self.now c.enter.new.self c.begun.new.self c.args.state.now c.enter.new.state (start_of c.args.origin) c.enter.ensures.lawful c.requires.start c.enter.ensures.kept c.begun.ensures.kept c.enter.ensures.given_back c.enter.ensures.room c.in_ok-enter.ensures.enough c.in_ok-enter.ensures.opened c.enter.ensures.none_taken c.enter.ensures.spent)
-    c.begun.new.self refl refl c.from_residual-in_err-flat.result c.in_err-flat.field-0.0 c.from_residual-in_err-flat.ensures.1 c.in_err-flat.ensures.memory refl
-
-pub pairs_part-loop-next-init : goal.pairs_part-loop-next-init
-pairs_part-loop-next-init g t c =
-    let here : c.args.state.now.state.vertex ≡ c.vertex.result = sym (c.vertex.ensures ∙ ap (λ (h : History). h.state.vertex) c.enter.ensures.given_back) in
-    pairs_begun c.in_ok-flat.flat.value
-    (finds_none c.args.self.now c.enter.new.self c.begun.new.self c.args.state.now c.enter.new.state (start_of c.args.origin) c.enter.ensures.lawful c.requires.start c.enter.ensures.kept c.begun.ensures.kept c.enter.ensures.given_back c.enter.ensures.room c.in_ok-enter.ensures.enough c.in_ok-enter.ensures.opened c.enter.ensures.none_taken c.enter.ensures.spent)
-    c.in_ok-flat.ensures.none_taken
-    (rules_before (λ x. IsBegun x c.args.state.now.state (start_of c.args.origin) c.in_ok-flat.flat.value) c.args.self.now c.enter.new.self c.enter.ensures.kept (c.in_ok-flat.ensures.begun c.args.state.now.state here))
-
-pub pairs_part-advance-requires-clause-fits : goal.pairs_part-advance-requires-clause-fits
-pairs_part-advance-requires-clause-fits g t c =
-    onward IsStateOf c.args.self.now c.loop-next.self c.args.state.now c.loop-next.state c.loop-next.invariant.finds.kept c.loop-next.invariant.finds.given_back c.requires.fits
-
-pub pairs_part-advance-requires-clause-marks : goal.pairs_part-advance-requires-clause-marks
-pairs_part-advance-requires-clause-marks g t c =
-    onward_rules (λ x. HasMarksOf x c.loop-next.flat.value.queue) c.args.self.now c.loop-next.self c.loop-next.invariant.finds.kept c.loop-next.invariant.begun.marks
-
-pub pairs_part-advance-requires-clause-within : goal.pairs_part-advance-requires-clause-within
-pairs_part-advance-requires-clause-within g t c = c.loop-next.invariant.begun.within
-
-pub pairs_part-lose-requires-clause-marks : goal.pairs_part-lose-requires-clause-marks
-pairs_part-lose-requires-clause-marks g t c = c.advance.ensures.marks
-
-pub pairs_part-lose-requires-clause-one : goal.pairs_part-lose-requires-clause-one
-pairs_part-lose-requires-clause-one g t c = finds_room c.loop-next.invariant.finds
-
-pub pairs_part-returns-in_default-clause-asked : goal.pairs_part-returns-in_default-clause-asked
-pairs_part-returns-in_default-clause-asked g t c =
-    let flat = c.advance.new.flat.value in
-    pairs_stopped c.loop-next.invariant flat.queue.pairs (c.in_default.ensures.lost (start_of c.args.origin) (begun_now c.loop-next.invariant flat)) _ Memory c.lose.ensures.over refl c.lose.new.self c.lose.ensures.kept c.lose.ensures.opened c.lose.ensures.taken
-
-pub pairs_part-ask-requires : goal.pairs_part-ask-requires
-pairs_part-ask-requires g t c κs within =
-    let flat = c.advance.new.flat.value in
-    let is = pairs_on c.loop-next.invariant flat (c.in-Ok.ensures.begun (start_of c.args.origin)) c.in-Ok.ensures.still_done c.in-Ok.ensures.quiet in
-    let next : IsNextPair c.loop-next.self flat c.in-Some.field-0.vertex c.in-Some.field-0.position = search rules in
-    (search rules, (within, asks_within is.finds c.requires.fits c.args.nested c.requires.nested _ _ (reached_next is _ _ next) next.vertex next.pattern))
-
-pub pairs_part-lose-requires-in-Err-clause-marks : goal.pairs_part-lose-requires-in-Err-clause-marks
-pairs_part-lose-requires-in-Err-clause-marks g t c = onward_rules (λ x. HasMarksOf x c.advance.new.flat.value.queue) c.loop-next.self c.ask.new.self c.ask.ensures.asked.kept c.advance.ensures.marks
-
-pub pairs_part-lose-requires-in-Err-clause-one : goal.pairs_part-lose-requires-in-Err-clause-one
-pairs_part-lose-requires-in-Err-clause-one g t c =
-    let flat = c.advance.new.flat.value in
-    let is = pairs_on c.loop-next.invariant flat (c.in-Ok.ensures.begun (start_of c.args.origin)) c.in-Ok.ensures.still_done c.in-Ok.ensures.quiet in
-    let next : IsNextPair c.loop-next.self flat c.in-Some.field-0.vertex c.in-Some.field-0.position = search rules in
-    pairs_left is _ _ next c.ask.ensures.asked
-
-pub pairs_part-returns-in-Err-clause-asked : goal.pairs_part-returns-in-Err-clause-asked
-pairs_part-returns-in-Err-clause-asked g t c =
-    let flat = c.advance.new.flat.value in
-    let is = pairs_on c.loop-next.invariant flat (c.in-Ok.ensures.begun (start_of c.args.origin)) c.in-Ok.ensures.still_done c.in-Ok.ensures.quiet in
-    let next : IsNextPair c.loop-next.self flat c.in-Some.field-0.vertex c.in-Some.field-0.position = search rules in
-    pairs_lost is _ _ next c.ask.ensures.asked _ c.in-Err.over c.in-Err.is c.lose-in-Err.ensures.over c.lose-in-Err.new.self c.lose-in-Err.ensures.kept c.lose-in-Err.ensures.opened c.lose-in-Err.ensures.taken
-
-pub pairs_part-take-requires-clause-marks : goal.pairs_part-take-requires-clause-marks
-pairs_part-take-requires-clause-marks g t c = onward_rules (λ x. HasMarksOf x c.advance.new.flat.value.queue) c.loop-next.self c.ask.new.self c.ask.ensures.asked.kept c.advance.ensures.marks
-
-pub pairs_part-take-requires-clause-vertex : goal.pairs_part-take-requires-clause-vertex
-pairs_part-take-requires-clause-vertex g t c =
-    let next : IsNextPair c.loop-next.self c.advance.new.flat.value c.in-Some.field-0.vertex c.in-Some.field-0.position = search rules in
-    onward_rules (λ x. c.in-Some.field-0.vertex < length x.board.first) c.loop-next.self c.ask.new.self c.ask.ensures.asked.kept next.vertex
-
-pub pairs_part-take-requires-clause-there : goal.pairs_part-take-requires-clause-there
-pairs_part-take-requires-clause-there g t c =
-    let next : IsNextPair c.loop-next.self c.advance.new.flat.value c.in-Some.field-0.vertex c.in-Some.field-0.position = search rules in
-    onward_rules (λ x. IsPatternAt x.rules c.in-Some.field-0.position) c.loop-next.self c.ask.new.self c.ask.ensures.asked.kept next.pattern
-
-pub pairs_part-lose-requires-in_default-take-clause-marks : goal.pairs_part-lose-requires-in_default-take-clause-marks
-pairs_part-lose-requires-in_default-take-clause-marks g t c = c.take.ensures.marks
-
-pub pairs_part-lose-requires-in_default-take-clause-one : goal.pairs_part-lose-requires-in_default-take-clause-one
-pairs_part-lose-requires-in_default-take-clause-one g t c =
-    let flat = c.advance.new.flat.value in
-    let is = pairs_on c.loop-next.invariant flat (c.in-Ok.ensures.begun (start_of c.args.origin)) c.in-Ok.ensures.still_done c.in-Ok.ensures.quiet in
-    let next : IsNextPair c.loop-next.self flat c.in-Some.field-0.vertex c.in-Some.field-0.position = search rules in
-    pairs_left is _ _ next c.ask.ensures.asked
-
-pub pairs_part-returns-in_default-take-clause-asked : goal.pairs_part-returns-in_default-take-clause-asked
-pairs_part-returns-in_default-take-clause-asked g t c =
-    let flat = c.advance.new.flat.value in
-    let is = pairs_on c.loop-next.invariant flat (c.in-Ok.ensures.begun (start_of c.args.origin)) c.in-Ok.ensures.still_done c.in-Ok.ensures.quiet in
-    let next : IsNextPair c.loop-next.self flat c.in-Some.field-0.vertex c.in-Some.field-0.position = search rules in
-    pairs_dropped is _ _ next c.ask.ensures.asked c.in-Ok-ask.answer c.in-Ok-ask.is c.in-Ok-ask.ensures.forced _ Memory c.lose-in_default-take.ensures.over refl c.take.new.flat.value.queue.pairs c.in_default-take.ensures.refused c.lose-in_default-take.new.self c.lose-in_default-take.ensures.kept c.lose-in_default-take.ensures.opened c.lose-in_default-take.ensures.taken
-
-pub pairs_part-loop-next-preserved : goal.pairs_part-loop-next-preserved
-pairs_part-loop-next-preserved g t c =
-    let flat = c.advance.new.flat.value in
-    let is = pairs_on c.loop-next.invariant flat (c.in-Ok.ensures.begun (start_of c.args.origin)) c.in-Ok.ensures.still_done c.in-Ok.ensures.quiet in
-    let next : IsNextPair c.loop-next.self flat c.in-Some.field-0.vertex c.in-Some.field-0.position = search rules in
-    pairs_more is _ _ next c.ask.ensures.asked c.in-Ok-ask.answer c.in-Ok-ask.is c.in-Ok-ask.ensures.forced c.take.new.flat.value c.in-Ok-ask.answer c.in-Ok-ask.ensures.valid c.in-Ok-take.ensures.done (c.in-Ok-take.ensures.begun c.loop-next.state.state (start_of c.args.origin))
-
-pub pairs_part-loop-next-smaller : goal.pairs_part-loop-next-smaller
-pairs_part-loop-next-smaller g t c =
-    further_on (2 ^ 64) c.loop-next.flat.value.taken c.advance.new.flat.value.taken c.take.new.flat.value.taken c.in-Ok.ensures.further c.in-Ok-take.ensures.taken c.in-Ok-take.ensures.small
-
-pub pairs_part-finish-requires-clause-marks : goal.pairs_part-finish-requires-clause-marks
-pairs_part-finish-requires-clause-marks g t c = c.advance.ensures.marks
-
-pub pairs_part-finish-requires-clause-one : goal.pairs_part-finish-requires-clause-one
-pairs_part-finish-requires-clause-one g t c = finds_room c.loop-next.invariant.finds
-
-pub pairs_part-returns-in_err-ends-clause-asked : goal.pairs_part-returns-in_err-ends-clause-asked
-pairs_part-returns-in_err-ends-clause-asked g t c =
-    let flat = c.advance.new.flat.value in
-    let is = pairs_on c.loop-next.invariant flat (c.in-Ok.ensures.begun (start_of c.args.origin)) c.in-Ok.ensures.still_done c.in-Ok.ensures.quiet in
-    let met : (e : Start) → IsBegun c.loop-next.self.game c.loop-next.state.state e c.loop-next.flat.value → (w q : ℕ) → IsReached c.loop-next.self.game c.loop-next.state.state e w q → Contains (take flat.taken flat.queue.pairs) (w, q) = search rules in
-    let r = c.from_residual-in_err-ends.result in
-    finds_asked is.finds c.finish.new.self c.finish.ensures.kept c.finish.ensures.opened r
-    (not_memory r c.in_err-ends.field-0.0 Deep c.from_residual-in_err-ends.ensures.1 c.in_err-ends.ensures.memory memory_not_deep)
-    (not_memory r c.in_err-ends.field-0.0 Wide c.from_residual-in_err-ends.ensures.1 c.in_err-ends.ensures.memory memory_not_wide)
-    (pairs_own is (met _ (begun_now c.loop-next.invariant flat)) c.finish.new.self c.finish.ensures.kept c.finish.ensures.opened _ _ c.finish.ensures.taken)
-
-pub pairs_part-returns-in_default-next-clause-asked : goal.pairs_part-returns-in_default-next-clause-asked
-pairs_part-returns-in_default-next-clause-asked g t c =
-    let flat = c.advance.new.flat.value in
-    let is = pairs_on c.loop-next.invariant flat (c.in-Ok.ensures.begun (start_of c.args.origin)) c.in-Ok.ensures.still_done c.in-Ok.ensures.quiet in
-    let met : (e : Start) → IsBegun c.loop-next.self.game c.loop-next.state.state e c.loop-next.flat.value → (w q : ℕ) → IsReached c.loop-next.self.game c.loop-next.state.state e w q → Contains (take flat.taken flat.queue.pairs) (w, q) = search rules in
-    finds_asked is.finds c.finish.new.self c.finish.ensures.kept c.finish.ensures.opened _ (ok_not_err c.in_ok-ends.ends Deep) (ok_not_err c.in_ok-ends.ends Wide)
-    (pairs_own is (met _ (begun_now c.loop-next.invariant flat)) c.finish.new.self c.finish.ensures.kept c.finish.ensures.opened _ _ c.finish.ensures.taken)
-
-pub pairs_part-returns-in_default-next-clause-found : goal.pairs_part-returns-in_default-next-clause-found
-pairs_part-returns-in_default-next-clause-found g t c =
-    let h = c.args.self.now in
-    let k = c.loop-next.self in
-    let s = c.args.state.now in
-    let l = c.loop-next.state in
-    let f : Start = start_of c.args.origin in
-    let flat = c.advance.new.flat.value in
-    let is : FindsByPairs h k s l f flat = pairs_on c.loop-next.invariant flat (c.in-Ok.ensures.begun f) c.in-Ok.ensures.still_done c.in-Ok.ensures.quiet in
-    let met : (e : Start) → IsBegun k.game l.state e c.loop-next.flat.value → (w q : ℕ) → IsReached k.game l.state e w q → Contains (take flat.taken flat.queue.pairs) (w, q) = search rules in
-    let begun = begun_now c.loop-next.invariant flat in
-    let whole : (e : Start) → IsBegun k.game l.state e c.loop-next.flat.value → IsFlatPart k.game l.state e flat.found.items flat.ends = search rules in
-    let part : IsFlatPart h.game s.state f flat.found.items flat.ends = before (λ x u. IsFlatPart x u f flat.found.items flat.ends) h k s l is.finds.kept is.finds.given_back (whole f begun) in
-    let handed : IsFlatPart h.game s.state f c.finish.new.pairs c.in_ok-ends.ends =
-    subst (λ (ps : List (ℕ × ℕ)). IsFlatPart h.game s.state f ps c.in_ok-ends.ends) (sym c.in_ok-ends.ensures.pairs) (subst (λ (e : Bool). IsFlatPart h.game s.state f flat.found.items e) (sym c.in_ok-ends.ensures.ends) part) in
-    let ready = all_ready h.game is.finds.lawful s.state c.requires.fits f c.args.nested c.requires.nested c.finish.new.pairs c.in_ok-ends.ends handed in
-    record {
-      lawful = is.finds.lawful;
-      reaches = record {
-        enough = is.finds.enough;
-        reached = handed;
-        within = positions_within h.game s.state c.requires.fits c.args.nested c.finish.new.pairs ready;
-        forced = pairs_forced is (met f begun) c.finish.new.self.opened c.finish.ensures.opened;
-      };
-      ready = ready;
-    }
-
--- ---- a flat part by sets
-
-pub sets_part-begun_by_sets-requires-clause-paths : goal.sets_part-begun_by_sets-requires-clause-paths
-sets_part-begun_by_sets-requires-clause-paths g t c = onward_rules (λ x. ArePathsOf x c.args.paths.now) c.args.self.now c.enter.new.self c.enter.ensures.kept c.requires.paths
-
-pub sets_part-begun_by_sets-requires-clause-fits : goal.sets_part-begun_by_sets-requires-clause-fits
-sets_part-begun_by_sets-requires-clause-fits g t c =
+pub flat_part-begun_by_sets-requires-clause-fits : goal.flat_part-begun_by_sets-requires-clause-fits
+flat_part-begun_by_sets-requires-clause-fits g t c =
     onward IsStateOf c.args.self.now c.enter.new.self c.args.state.now c.enter.new.state c.enter.ensures.kept c.enter.ensures.given_back c.requires.fits
 
-pub sets_part-begun_by_sets-requires-clause-stands : goal.sets_part-begun_by_sets-requires-clause-stands
-sets_part-begun_by_sets-requires-clause-stands g t c = onward_rules (λ x. IsStart x.rules (start_of c.args.origin)) c.args.self.now c.enter.new.self c.enter.ensures.kept c.requires.start
+pub flat_part-begun_by_sets-requires-clause-stands : goal.flat_part-begun_by_sets-requires-clause-stands
+flat_part-begun_by_sets-requires-clause-stands g t c = onward_rules (λ x. IsStart x.rules (start_of c.args.origin)) c.args.self.now c.enter.new.self c.enter.ensures.kept c.requires.start
 
-pub sets_part-returns-in_err-enter-clause-asked : goal.sets_part-returns-in_err-enter-clause-asked
-sets_part-returns-in_err-enter-clause-asked g t c =
+pub flat_part-returns-in_err-enter-clause-asked : goal.flat_part-returns-in_err-enter-clause-asked
+flat_part-returns-in_err-enter-clause-asked g t c =
     not_entered c.args.self.now c.enter.new.self c.args.state.now c.enter.new.state (start_of c.args.origin) c.enter.result c.from_residual.result c.in_err-enter.field-0.0 c.in_err-enter.was c.from_residual.ensures.1 c.enter.ensures.kept c.enter.ensures.given_back c.enter.ensures.room
     (c.enter.ensures.counts c.args.state.now.state (start_of c.args.origin) c.requires.start) (c.in_err-enter.ensures.lost c.args.state.now.state (start_of c.args.origin))
 
-pub sets_part-returns-in_err-flat-clause-asked : goal.sets_part-returns-in_err-flat-clause-asked
-sets_part-returns-in_err-flat-clause-asked g t c =
+pub flat_part-returns-in_err-flat-clause-asked : goal.flat_part-returns-in_err-flat-clause-asked
+flat_part-returns-in_err-flat-clause-asked g t c =
     finds_refused
     (finds_none c.args.self.now c.enter.new.self c.begun_by_sets.new.self c.args.state.now c.enter.new.state (start_of c.args.origin) c.enter.ensures.lawful c.requires.start c.enter.ensures.kept c.begun_by_sets.ensures.kept c.enter.ensures.given_back c.enter.ensures.room c.in_ok-enter.ensures.enough c.in_ok-enter.ensures.opened c.enter.ensures.none_taken c.enter.ensures.spent)
     c.begun_by_sets.new.self refl refl c.from_residual-in_err-flat.result c.in_err-flat.field-0.0 c.from_residual-in_err-flat.ensures.1 c.in_err-flat.ensures.memory refl
 
-pub sets_part-loop-vertex-init : goal.sets_part-loop-vertex-init
-sets_part-loop-vertex-init g t c =
+pub flat_part-loop-vertex-init : goal.flat_part-loop-vertex-init
+flat_part-loop-vertex-init g t c =
     sets_begun c.enter.new.self c.in_ok-flat.flat.value
     (finds_none c.args.self.now c.enter.new.self c.begun_by_sets.new.self c.args.state.now c.enter.new.state (start_of c.args.origin) c.enter.ensures.lawful c.requires.start c.enter.ensures.kept c.begun_by_sets.ensures.kept c.enter.ensures.given_back c.enter.ensures.room c.in_ok-enter.ensures.enough c.in_ok-enter.ensures.opened c.enter.ensures.none_taken c.enter.ensures.spent)
     c.enter.ensures.kept c.in_ok-flat.ensures.begins
 
-pub sets_part-advance_by_sets-requires-clause-paths : goal.sets_part-advance_by_sets-requires-clause-paths
-sets_part-advance_by_sets-requires-clause-paths g t c = onward_rules (λ x. ArePathsOf x c.args.paths.now) c.args.self.now c.loop-vertex.self c.loop-vertex.invariant.finds.kept c.requires.paths
+pub flat_part-advance_by_sets-requires-clause-paths : goal.flat_part-advance_by_sets-requires-clause-paths
+flat_part-advance_by_sets-requires-clause-paths g t c = onward_rules (λ x. ArePathsOf x c.args.paths.now) c.args.self.now c.loop-vertex.self c.loop-vertex.invariant.finds.kept c.requires.paths
 
-pub sets_part-advance_by_sets-requires-clause-fits : goal.sets_part-advance_by_sets-requires-clause-fits
-sets_part-advance_by_sets-requires-clause-fits g t c =
+pub flat_part-advance_by_sets-requires-clause-fits : goal.flat_part-advance_by_sets-requires-clause-fits
+flat_part-advance_by_sets-requires-clause-fits g t c =
     onward IsStateOf c.args.self.now c.loop-vertex.self c.args.state.now c.loop-vertex.state c.loop-vertex.invariant.finds.kept c.loop-vertex.invariant.finds.given_back c.requires.fits
 
-pub sets_part-advance_by_sets-requires-clause-sets : goal.sets_part-advance_by_sets-requires-clause-sets
-sets_part-advance_by_sets-requires-clause-sets g t c = sets_now c.loop-vertex.invariant
+pub flat_part-advance_by_sets-requires-clause-sets : goal.flat_part-advance_by_sets-requires-clause-sets
+flat_part-advance_by_sets-requires-clause-sets g t c = sets_now c.loop-vertex.invariant
 
-pub sets_part-ask-requires : goal.sets_part-ask-requires
-sets_part-ask-requires g t c κs within =
+pub flat_part-ask-requires : goal.flat_part-ask-requires
+flat_part-ask-requires g t c κs within =
     let is = sets_on c.loop-vertex.invariant c.advance_by_sets.new.flat.value c.advance_by_sets.ensures.advances in
     let next : IsToBeAsked c.loop-vertex.self.game c.advance_by_sets.new.flat.value c.in-Some.field-0.vertex c.in-Some.field-0.position = search rules in
-    (search rules, (within, asks_within is.finds c.requires.fits c.args.nested c.requires.nested _ _ (reached_here is _ _ next) next.vertex next.pattern))
+    (search rules, (within, (onward_rules (λ x. ArePathsOf x c.args.paths.now) c.args.self.now c.loop-vertex.self c.loop-vertex.invariant.finds.kept c.requires.paths, asks_within is.finds c.requires.fits c.args.nested c.requires.nested _ _ (reached_here is _ _ next) next.vertex next.pattern)))
 
-pub sets_part-take_by_sets-requires-clause-paths : goal.sets_part-take_by_sets-requires-clause-paths
-sets_part-take_by_sets-requires-clause-paths g t c =
+pub flat_part-take_by_sets-requires-clause-paths : goal.flat_part-take_by_sets-requires-clause-paths
+flat_part-take_by_sets-requires-clause-paths g t c =
     onward_rules (λ x. ArePathsOf x c.args.paths.now) c.loop-vertex.self c.ask.new.self c.ask.ensures.asked.kept (onward_rules (λ x. ArePathsOf x c.args.paths.now) c.args.self.now c.loop-vertex.self c.loop-vertex.invariant.finds.kept c.requires.paths)
 
-pub sets_part-take_by_sets-requires-clause-fits : goal.sets_part-take_by_sets-requires-clause-fits
-sets_part-take_by_sets-requires-clause-fits g t c =
+pub flat_part-take_by_sets-requires-clause-fits : goal.flat_part-take_by_sets-requires-clause-fits
+flat_part-take_by_sets-requires-clause-fits g t c =
     onward IsStateOf c.loop-vertex.self c.ask.new.self c.loop-vertex.state c.ask.new.state c.ask.ensures.asked.kept c.ask.ensures.asked.given_back
     (onward IsStateOf c.args.self.now c.loop-vertex.self c.args.state.now c.loop-vertex.state c.loop-vertex.invariant.finds.kept c.loop-vertex.invariant.finds.given_back c.requires.fits)
 
-pub sets_part-take_by_sets-requires-clause-sets : goal.sets_part-take_by_sets-requires-clause-sets
-sets_part-take_by_sets-requires-clause-sets g t c =
+pub flat_part-take_by_sets-requires-clause-sets : goal.flat_part-take_by_sets-requires-clause-sets
+flat_part-take_by_sets-requires-clause-sets g t c =
     onward_rules (λ x. HasSetsFor x c.advance_by_sets.new.flat.value) c.loop-vertex.self c.ask.new.self c.ask.ensures.asked.kept c.advance_by_sets.ensures.advances.sets
 
-pub sets_part-take_by_sets-requires-clause-next : goal.sets_part-take_by_sets-requires-clause-next
-sets_part-take_by_sets-requires-clause-next g t c =
+pub flat_part-take_by_sets-requires-clause-next : goal.flat_part-take_by_sets-requires-clause-next
+flat_part-take_by_sets-requires-clause-next g t c =
     let next : IsToBeAsked c.loop-vertex.self.game c.advance_by_sets.new.flat.value c.in-Some.field-0.vertex c.in-Some.field-0.position = search rules in
     onward_rules (λ x. IsToBeAsked x c.advance_by_sets.new.flat.value c.in-Some.field-0.vertex c.in-Some.field-0.position) c.loop-vertex.self c.ask.new.self c.ask.ensures.asked.kept next
 
-pub sets_part-loop-vertex-preserved : goal.sets_part-loop-vertex-preserved
-sets_part-loop-vertex-preserved g t c =
+pub flat_part-loop-vertex-preserved : goal.flat_part-loop-vertex-preserved
+flat_part-loop-vertex-preserved g t c =
     let is = sets_on c.loop-vertex.invariant c.advance_by_sets.new.flat.value c.advance_by_sets.ensures.advances in
     let next : IsToBeAsked c.loop-vertex.self.game c.advance_by_sets.new.flat.value c.in-Some.field-0.vertex c.in-Some.field-0.position = search rules in
     sets_more is _ _ next c.ask.ensures.asked c.take_by_sets.new.flat.value c.in-Ok.answer c.in-Ok.answer c.in-Ok.is c.in-Ok.ensures.valid c.take_by_sets.ensures.takes c.in-Ok.ensures.forced
 
-pub sets_part-loop-vertex-smaller : goal.sets_part-loop-vertex-smaller
-sets_part-loop-vertex-smaller g t c = omega (arith, c.advance_by_sets.ensures.advances.lighter, c.take_by_sets.ensures.takes.lighter)
+pub flat_part-loop-vertex-smaller : goal.flat_part-loop-vertex-smaller
+flat_part-loop-vertex-smaller g t c = omega (arith, c.advance_by_sets.ensures.advances.lighter, c.take_by_sets.ensures.takes.lighter)
 
-pub sets_part-lose_sets-requires-clause-sets : goal.sets_part-lose_sets-requires-clause-sets
-sets_part-lose_sets-requires-clause-sets g t c =
+pub flat_part-lose_sets-requires-clause-sets : goal.flat_part-lose_sets-requires-clause-sets
+flat_part-lose_sets-requires-clause-sets g t c =
     onward_rules (λ x. HasSetsFor x c.advance_by_sets.new.flat.value) c.loop-vertex.self c.ask.new.self c.ask.ensures.asked.kept c.advance_by_sets.ensures.advances.sets
 
-pub sets_part-lose_sets-requires-clause-one : goal.sets_part-lose_sets-requires-clause-one
-sets_part-lose_sets-requires-clause-one g t c =
+pub flat_part-lose_sets-requires-clause-one : goal.flat_part-lose_sets-requires-clause-one
+flat_part-lose_sets-requires-clause-one g t c =
     let is = sets_on c.loop-vertex.invariant c.advance_by_sets.new.flat.value c.advance_by_sets.ensures.advances in
     let next : IsToBeAsked c.loop-vertex.self.game c.advance_by_sets.new.flat.value c.in-Some.field-0.vertex c.in-Some.field-0.position = search rules in
     sets_left is _ _ next c.ask.ensures.asked
 
-pub sets_part-returns-in-Err-clause-asked : goal.sets_part-returns-in-Err-clause-asked
-sets_part-returns-in-Err-clause-asked g t c =
+pub flat_part-returns-in-Err-clause-asked : goal.flat_part-returns-in-Err-clause-asked
+flat_part-returns-in-Err-clause-asked g t c =
     let is = sets_on c.loop-vertex.invariant c.advance_by_sets.new.flat.value c.advance_by_sets.ensures.advances in
     let next : IsToBeAsked c.loop-vertex.self.game c.advance_by_sets.new.flat.value c.in-Some.field-0.vertex c.in-Some.field-0.position = search rules in
     sets_lost is _ _ next c.ask.ensures.asked _ c.in-Err.over c.in-Err.is c.lose_sets.ensures.over c.lose_sets.new.self c.lose_sets.ensures.kept c.lose_sets.ensures.opened c.lose_sets.ensures.taken
 
-pub sets_part-finish_by_sets-requires-clause-paths : goal.sets_part-finish_by_sets-requires-clause-paths
-sets_part-finish_by_sets-requires-clause-paths g t c = onward_rules (λ x. ArePathsOf x c.args.paths.now) c.args.self.now c.loop-vertex.self c.loop-vertex.invariant.finds.kept c.requires.paths
+pub flat_part-finish_by_sets-requires-clause-paths : goal.flat_part-finish_by_sets-requires-clause-paths
+flat_part-finish_by_sets-requires-clause-paths g t c = onward_rules (λ x. ArePathsOf x c.args.paths.now) c.args.self.now c.loop-vertex.self c.loop-vertex.invariant.finds.kept c.requires.paths
 
-pub sets_part-finish_by_sets-requires-clause-fits : goal.sets_part-finish_by_sets-requires-clause-fits
-sets_part-finish_by_sets-requires-clause-fits g t c =
+pub flat_part-finish_by_sets-requires-clause-fits : goal.flat_part-finish_by_sets-requires-clause-fits
+flat_part-finish_by_sets-requires-clause-fits g t c =
     onward IsStateOf c.args.self.now c.loop-vertex.self c.args.state.now c.loop-vertex.state c.loop-vertex.invariant.finds.kept c.loop-vertex.invariant.finds.given_back c.requires.fits
 
-pub sets_part-finish_by_sets-requires-clause-sets : goal.sets_part-finish_by_sets-requires-clause-sets
-sets_part-finish_by_sets-requires-clause-sets g t c = c.advance_by_sets.ensures.advances.sets
+pub flat_part-finish_by_sets-requires-clause-sets : goal.flat_part-finish_by_sets-requires-clause-sets
+flat_part-finish_by_sets-requires-clause-sets g t c = c.advance_by_sets.ensures.advances.sets
 
-pub sets_part-finish_by_sets-requires-clause-whole : goal.sets_part-finish_by_sets-requires-clause-whole
-sets_part-finish_by_sets-requires-clause-whole g t c = search rules
+pub flat_part-finish_by_sets-requires-clause-whole : goal.flat_part-finish_by_sets-requires-clause-whole
+flat_part-finish_by_sets-requires-clause-whole g t c = search rules
 
-pub sets_part-finish_by_sets-requires-clause-one : goal.sets_part-finish_by_sets-requires-clause-one
-sets_part-finish_by_sets-requires-clause-one g t c = finds_room c.loop-vertex.invariant.finds
+pub flat_part-finish_by_sets-requires-clause-one : goal.flat_part-finish_by_sets-requires-clause-one
+flat_part-finish_by_sets-requires-clause-one g t c = finds_room c.loop-vertex.invariant.finds
 
-pub sets_part-returns-in_err-ends-clause-asked : goal.sets_part-returns-in_err-ends-clause-asked
-sets_part-returns-in_err-ends-clause-asked g t c =
+pub flat_part-returns-in_err-ends-clause-asked : goal.flat_part-returns-in_err-ends-clause-asked
+flat_part-returns-in_err-ends-clause-asked g t c =
     let is = sets_on c.loop-vertex.invariant c.advance_by_sets.new.flat.value c.advance_by_sets.ensures.advances in
     let r = c.from_residual-in_err-ends.result in
     finds_asked is.finds c.finish_by_sets.new.self c.finish_by_sets.ensures.kept c.finish_by_sets.ensures.opened r
@@ -354,14 +186,14 @@ sets_part-returns-in_err-ends-clause-asked g t c =
     (not_memory r c.in_err-ends.field-0.0 Wide c.from_residual-in_err-ends.ensures.1 c.in_err-ends.ensures.memory memory_not_wide)
     (sets_own is c.finish_by_sets.new.self c.finish_by_sets.ensures.kept c.finish_by_sets.ensures.opened _ _ c.finish_by_sets.ensures.taken)
 
-pub sets_part-returns-clause-asked : goal.sets_part-returns-clause-asked
-sets_part-returns-clause-asked g t c =
+pub flat_part-returns-clause-asked : goal.flat_part-returns-clause-asked
+flat_part-returns-clause-asked g t c =
     let is = sets_on c.loop-vertex.invariant c.advance_by_sets.new.flat.value c.advance_by_sets.ensures.advances in
     finds_asked is.finds c.finish_by_sets.new.self c.finish_by_sets.ensures.kept c.finish_by_sets.ensures.opened _ (ok_not_err c.in_ok-ends.ends Deep) (ok_not_err c.in_ok-ends.ends Wide)
     (sets_own is c.finish_by_sets.new.self c.finish_by_sets.ensures.kept c.finish_by_sets.ensures.opened _ _ c.finish_by_sets.ensures.taken)
 
-pub sets_part-returns-clause-found : goal.sets_part-returns-clause-found
-sets_part-returns-clause-found g t c =
+pub flat_part-returns-clause-found : goal.flat_part-returns-clause-found
+flat_part-returns-clause-found g t c =
     let h = c.args.self.now in
     let s = c.args.state.now in
     let f : Start = start_of c.args.origin in
@@ -388,7 +220,8 @@ word_runs-flat_part-requires g t c κs within =
     let fits : IsStateOf c.take_list-pairs.new.self.game c.args.state.now.state = subst (λ (x : Searching). IsStateOf x.game c.args.state.now.state) (sym here) c.requires.fits in
     let nested : NestsFrom c.take_list-pairs.new.self.game.rules c.args.nested (start_of c.args.origin) = subst (λ (x : Searching). NestsFrom x.game.rules c.args.nested (start_of c.args.origin)) (sym here) c.requires.nested in
     let start : IsStart c.take_list-pairs.new.self.game.rules (start_of c.args.origin) = subst (λ (x : Searching). IsStart x.game.rules (start_of c.args.origin)) (sym here) (inside_start c.args.self.now.game.rules (start_of c.args.origin) c.requires.inside) in
-    (search rules, (within, (fits, (nested, start))))
+    let paths = subst (λ (x : Searching). ArePathsOf x.game c.args.paths.now) (sym here) c.requires.paths in
+    (search rules, (within, (paths, (fits, (nested, start)))))
 
 pub word_runs-returns-in_err-ends-clause-asked : goal.word_runs-returns-in_err-ends-clause-asked
 word_runs-returns-in_err-ends-clause-asked g t c =
@@ -432,7 +265,8 @@ word_runs-runs_after-requires g t c κs within =
     let fits : IsStateOf k.game l.state = onward IsStateOf h k s l first.kept first.given_back c.requires.fits in
     let ready = onward (λ x u. All (IsReady x u c.args.nested) pairs) h k s l first.kept first.given_back found.ready in
     let inside = inside_pairs h k s l f pairs pairs c.in_ok-ends.ends first.kept first.given_back refl found.lawful c.requires.inside found.reaches.reached in
-    (search rules, (within, (fits, (found.reaches.enough, (ready, inside)))))
+    let paths = onward_rules (λ x. ArePathsOf x c.args.paths.now) h k first.kept c.requires.paths in
+    (search rules, (within, (paths, (fits, (found.reaches.enough, (ready, inside))))))
 
 pub word_runs-returns-in_err-runs-clause-asked : goal.word_runs-returns-in_err-runs-clause-asked
 word_runs-returns-in_err-runs-clause-asked g t c =
@@ -513,7 +347,8 @@ runs_after-runs_after_one-requires g t c κs within =
     let some : 0 < c.args.modifiers = omega (arith, c.if-modifiers-le1.false) in
     let ready = onward (λ x u. IsReady x u c.args.nested q) h k s l is.tries.stays.kept is.tries.stays.given_back (All-contains (IsReady h.game s.state c.args.nested) c.args.pairs.now q c.requires.ready there) in
     let inside = onward (λ x u. StandsInPattern x.rules (after q.1)) h k s l is.tries.stays.kept is.tries.stays.given_back (All-contains (λ r. StandsInPattern h.game.rules (after r.1)) c.args.pairs.now q c.requires.inside there) in
-    (search rules, (within, (fits, (room, (ready, (inside, some))))))
+    let paths = onward_rules (λ x. ArePathsOf x c.args.paths.now) h k is.tries.stays.kept c.requires.paths in
+    (search rules, (within, (paths, (fits, (room, (ready, (inside, some)))))))
 
 pub runs_after-returns-in_err-runs_after_one-clause-asked : goal.runs_after-returns-in_err-runs_after_one-clause-asked
 runs_after-returns-in_err-runs_after_one-clause-asked g t c =
@@ -588,7 +423,7 @@ pub runs_after_one-word_runs-runs-requires : goal.runs_after_one-word_runs-runs-
 runs_after_one-word_runs-runs-requires g t c κs within =
     let ready = rw (← c.pair.view_is) at c.requires.ready in
     let inside = rw (← c.pair.view_is) at c.requires.inside in
-    (search rules, (within, (c.apply_at.ensures.fits, (ready.nests, inside))))
+    (search rules, (within, (c.requires.paths, (c.apply_at.ensures.fits, (ready.nests, inside)))))
 
 pub runs_after_one-returns-in_err-runs-clause-asked : goal.runs_after_one-returns-in_err-runs-clause-asked
 runs_after_one-returns-in_err-runs-clause-asked g t c = rw (← c.pair.view_is) (λ later applies.

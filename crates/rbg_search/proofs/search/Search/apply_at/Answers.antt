@@ -2,7 +2,7 @@ use Rattle.std.proofs.Common.{◌≡◌, sym, ap, ◌∙◌, subst}
 use Rattle.rbg_rules.specs.Meaning.{IsModifierAt, AbstractGame, AbstractState, Applies, IsGame}
 use Rattle.rbg_state.specs.History.{History}
 use Rattle.rbg_search.specs.Searching.{Searching}
-use Rattle.rbg_pairs.specs.Closure.{at_vertex}
+use Rattle.rbg_search.specs.Closure.{at_vertex}
 use Rattle.rbg_search.proofs.Asking.{no_modifier}
 use Rattle.rbg_search.proofs.search.Search.apply_at.Goals as goal
 

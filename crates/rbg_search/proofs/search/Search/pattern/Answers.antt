@@ -3,7 +3,7 @@ use Rattle.rbg_search.proofs.Takings.{takes_none_yet, not_ok}
 use Rattle.rbg_rules.specs.Meaning.{inside, Start, beginning, AbstractGame, AbstractState, Applies, pattern}
 use Rattle.rbg_state.specs.History.{History}
 use Rattle.rbg_search.proofs.Common.{Searching, IsAsked, Over, Deep, Wide, Memory, CountsForced}
-use Rattle.rbg_pairs.proofs.Common.{at_vertex, NestsFrom}
+use Rattle.rbg_search.proofs.Along.{at_vertex, NestsFrom}
 use Rattle.rbg_search.proofs.Asking.{room_twice}
 use Rattle.rbg_search.proofs.Countings.{none_counted}
 use Rattle.rbg_search.proofs.Counted.{memory_not_deep, memory_not_wide}
@@ -21,8 +21,8 @@ still_here s r v is kept = sym (ap (λ (u : ℕ). at_vertex r.state u) is ∙ ap
 asked_here : {X : Type 0} {h k : Searching} {s r l : History} {f : Start} {n v : ℕ} {result : Result X Over} → IsAsked h k r l pattern (at_vertex r.state v) f n result → s.state ≡ at_vertex r.state v → r ≡ record s { room = r.room } → s.room ≤ r.room → IsAsked h k s l pattern s.state f n result
 asked_here {s = s} {r = r} {l = l} {n = n} is at kept more = asked_there is s l s.state n at refl (room_twice s r l kept is.given_back) (omega (arith, is.room, more))
 
-pub ask-requires-clause-nested : goal.ask-requires-clause-nested
-ask-requires-clause-nested g c = λ k is.
+pub ask_first-requires-clause-nested : goal.ask_first-requires-clause-nested
+ask_first-requires-clause-nested g c = λ k is.
     let game : c.self.inside.rules ≡ c.args.self.now.game = ap (λ (x : Searching). x.game) c.self.view_is in
     let nests : NestsFrom c.args.self.now.game.rules c.nesting-nested.result (beginning (inside c.args.position)) =
     subst (λ (x : AbstractGame). NestsFrom x.rules c.nesting-nested.result (beginning (inside c.args.position))) game (c.nesting-nested.ensures.nests (beginning (inside c.args.position))) in
@@ -54,7 +54,7 @@ pub returns-in_err-valid-clause-answered : goal.returns-in_err-valid-clause-answ
 returns-in_err-valid-clause-answered g c =
     let some : 0 < c.args.self.now.modifiers = subst (λ (m : ℕ). 0 < m) (ap (λ (x : Searching). x.modifiers) c.self.view_is) c.self.invariant.3 in
     let at = still_here c.args.state.now c.reserve.new.self c.vertex-vertex.result c.vertex-vertex.ensures c.reserve.ensures.kept in
-    let asked = asked_here c.ask.ensures.asked at c.reserve.ensures.kept c.reserve.ensures.no_less in
+    let asked = asked_here c.ask_first.ensures.asked at c.reserve.ensures.kept c.reserve.ensures.no_less in
     answered some (handed_on asked c.from_residual-in_err-valid.result c.in_err-valid.field-0.0 c.in_err-valid.was c.from_residual-in_err-valid.ensures.1)
     (λ ok. absurd (not_ok c.from_residual-in_err-valid.result c.in_err-valid.field-0.0 c.from_residual-in_err-valid.ensures.1 ok))
 
@@ -62,6 +62,6 @@ pub returns-clause-answered : goal.returns-clause-answered
 returns-clause-answered g c =
     let some : 0 < c.args.self.now.modifiers = subst (λ (m : ℕ). 0 < m) (ap (λ (x : Searching). x.modifiers) c.self.view_is) c.self.invariant.3 in
     let at = still_here c.args.state.now c.reserve.new.self c.vertex-vertex.result c.vertex-vertex.ensures c.reserve.ensures.kept in
-    let asked = asked_here c.ask.ensures.asked at c.reserve.ensures.kept c.reserve.ensures.no_less in
+    let asked = asked_here c.ask_first.ensures.asked at c.reserve.ensures.kept c.reserve.ensures.no_less in
     answered some (answered_on asked c.in_ok-valid.valid c.in_ok-valid.valid c.in_ok-valid.was)
-    (λ _ cut. subst (λ (s : AbstractState). CountsForced c.args.self.now.game cut pattern s (beginning (inside c.args.position)) c.args.self.now.opened c.ask.new.self.opened c.args.self.now.modifiers c.args.self.now.modifiers) (sym at) (c.in_ok-valid.ensures.forced cut))
+    (λ _ cut. subst (λ (s : AbstractState). CountsForced c.args.self.now.game cut pattern s (beginning (inside c.args.position)) c.args.self.now.opened c.ask_first.new.self.opened c.args.self.now.modifiers c.args.self.now.modifiers) (sym at) (c.in_ok-valid.ensures.forced cut))

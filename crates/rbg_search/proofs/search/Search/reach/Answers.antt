@@ -1,7 +1,7 @@
 use Rattle.std.proofs.Common.{◌≢◌, ℕ, List, sym, subst, AllPairs}
 use Rattle.rbg_rules.specs.Meaning.{reach}
 use Rattle.rbg_search.proofs.Common.{Searching, IsAnswered, HasReached}
-use Rattle.rbg_pairs.specs.Start.{start_of}
+use Rattle.rbg_search.specs.Start.{start_of}
 use Rattle.rbg_search.proofs.Orders.{flat_permuted, within_permuted}
 use Rattle.rbg_search.proofs.Asks.{answer_handed, answer_on, answer_lost, answer_same}
 use Rattle.rbg_search.proofs.search.Search.reach.Goals as goal

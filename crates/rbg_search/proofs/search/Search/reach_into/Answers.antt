@@ -1,5 +1,5 @@
 use Rattle.std.proofs.Common.{◌≡◌, ℕ, List, [], ◌∷◌, ◌++◌, ap, ◌∙◌, sym, subst}
-use Rattle.rbg_pairs.specs.Start.{start_of}
+use Rattle.rbg_search.specs.Start.{start_of}
 use Rattle.rbg_state.specs.History.{History}
 use Rattle.rbg_search.specs.Answered.{HasReached}
 use Rattle.rbg_search.proofs.Asks.{answer_handed, answer_on, answer_lost}

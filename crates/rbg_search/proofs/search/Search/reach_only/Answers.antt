@@ -1,9 +1,7 @@
-use Rattle.rbg_base.proofs.Common.{◌≡◌, ℕ, ◌+◌, ◌-◌, ◌*◌, ◌<◌, ◌≤◌, [], ◌∷◌, length, ap, subst, arith, Bool, Decides, All-nil, All-push, refl, Result, Err, IsOk}
-use Rattle.rbg_rules.specs.Meaning.{positions_of, IsNumbered, Start, Ends, reach, AbstractGame, AbstractState, IsStateOf}
-use Rattle.rbg_auto.specs.Steps.{AreAllThatFollow}
-use Rattle.rbg_state.specs.History.{History}
-use Rattle.rbg_search.proofs.Common.{Searching, most_pairs_of, Deep, Memory, Wide, HasReached, IsAsked, Finds}
-use Rattle.rbg_pairs.proofs.Common.{start_of, IsPositionOf, IsTrialAt}
+use Rattle.rbg_base.proofs.Common.{◌≡◌, ℕ, ◌*◌, ◌<◌, ◌≤◌, [], length, ap, subst, Bool, Decides, refl}
+use Rattle.rbg_rules.specs.Meaning.{positions_of, Start, Ends, AbstractGame}
+use Rattle.rbg_search.proofs.Common.{Searching, Deep, Wide}
+use Rattle.rbg_search.proofs.Along.{start_of}
 use Rattle.rbg_search.proofs.Lone.{few, asked, found}
 use Rattle.rbg_search.proofs.Fewness.{one_opened}
 use Rattle.rbg_search.proofs.Takings.{not_ok}
@@ -11,8 +9,6 @@ use Rattle.rbg_search.proofs.Kept.{onward_rules, rules_before}
 use Rattle.rbg_search.proofs.Asks.{answered, not_entered}
 use Rattle.rbg_search.proofs.Counted.{ok_not_err}
 use Rattle.rbg_search.proofs.Finding.{finds_none}
-use Rattle.rbg_state.specs.declared.state.trials.Trial.TheVariants.{Modifies}
-use Rattle.rbg_search.specs.declared.over.Over.{Over as AnyOver}
 use Rattle.rbg_search.proofs.search.Search.reach_only.Goals as goal
 
 -- Whether a word may end is told of the game.

@@ -1,6 +1,7 @@
 use Rattle.std.proofs.Common.{◌≡◌, ap, sym, ◌∙◌, subst}
 use Rattle.rbg_rules.specs.Meaning.{IsGame, AbstractGame}
 use Rattle.rbg_flat.specs.declared.flat.Flat.{Flat}
+use Rattle.rbg_flat.specs.Paths.{way_of}
 use Rattle.rbg_search.proofs.Common.{Searching, HasSetsFor, IsToBeAsked, TakesBySets}
 use Rattle.rbg_search.proofs.BySets.{asked_one, pattern_holds}
 use Rattle.rbg_search.proofs.search.Search.take_by_sets.Goals as goal
@@ -18,7 +19,7 @@ returns g c =
     let opened : old ≡ c.args.flat.now.value = c.deref_mut.ensures.value in
     let next : IsToBeAsked game old v p = subst (λ (x : AbstractGame). IsToBeAsked x old v p) (sym same) (subst (λ (x : Flat). IsToBeAsked c.args.self.now.game x v p) (sym opened) c.requires.next) in
     let sets : HasSetsFor game old = subst (λ (x : AbstractGame). HasSetsFor x old) (sym same) (subst (λ (x : Flat). HasSetsFor c.args.self.now.game x) (sym opened) c.requires.sets) in
-    let there : TakesBySets game s old new v p c.args.valid = record {
+    let there : TakesBySets (way_of c.args.paths.now) game s old new v p c.args.valid = record {
       sets = record { sized = c.take.ensures.sized; on = c.take.ensures.on sets.on };
       begun = λ f decides begun. record { begun = c.take.ensures.begun f (pattern_holds game lawful.numbered s v p c.args.valid next.pattern decides) begun.begun };
       asked = asked_one game old new v p c.take.ensures.still_done c.take.ensures.done c.take.ensures.quiet;
@@ -26,6 +27,6 @@ returns g c =
     } in
     record {
       takes =
-          subst (λ (x : AbstractGame). TakesBySets x s c.args.flat.now.value new v p c.args.valid) same
-          (subst (λ (x : Flat). TakesBySets game s x new v p c.args.valid) opened there);
+          subst (λ (x : AbstractGame). TakesBySets (way_of c.args.paths.now) x s c.args.flat.now.value new v p c.args.valid) same
+          (subst (λ (x : Flat). TakesBySets (way_of c.args.paths.now) game s x new v p c.args.valid) opened there);
     }

@@ -1,7 +1,5 @@
-use Rattle.rbg_base.proofs.Common.{rules, ◌≡◌, ◌^◌, ◌+◌, ◌<◌, ◌≤◌, arith, sym, ap, subst}
-use Rattle.rbg_rules.specs.Meaning.{AbstractGame, IsGame}
-use Rattle.rbg_search.proofs.Common.{Searching, IsSpent, most_pairs_of}
-use Rattle.rbg_search.proofs.Lone.{line_fits, spent_further}
+use Rattle.rbg_base.proofs.Common.{rules, ◌≡◌, ◌^◌, ◌+◌, ◌<◌, arith, ap}
+use Rattle.rbg_search.proofs.Common.{Searching}
 use Rattle.rbg_search.proofs.search.Search.take_line.Goals as goal
 
 pub overflow_add-self : goal.overflow_add-self

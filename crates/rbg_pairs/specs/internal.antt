@@ -1,2 +1,0 @@
--- Definitions that the crate's own proofs use.
-pub mod Taking
