@@ -167,7 +167,7 @@ const RbgPlay = (() => {
 
   const fitting = () => legal.filter(move => chosen.every((vertex, index) => move.clicks[index] === vertex));
 
-  /* Shows all. */
+  /* Shows all. A new drawing comes onto the page once its pieces are there. */
   const show = () => {
     const step = steps[at];
     if (!step) return;
@@ -177,6 +177,7 @@ const RbgPlay = (() => {
     const changed = new Set(at > 0 ? [...step.changed, ...step.settled].map(change => change.vertex) : []);
     drawing.show(step.board, vertex => (chosen.includes(vertex) ? 'chosen ' : changed.has(vertex) ? 'changed ' : '') + (next.has(vertex) ? 'can ' : '') + (hinted.includes(vertex) ? 'hint ' : ''));
     letFocus(focused);
+    if (!drawing.svg.isConnected) get('stage').replaceChildren(drawing.svg);
     showTurn(step);
     showChoices(person ? fits : []);
     showLists(step);
@@ -585,7 +586,6 @@ const RbgPlay = (() => {
     version = game.version;
     stamp = (await stateOf()).stamp;
     drawing = RbgBoard.draw(game, 'button');
-    get('stage').replaceChildren(drawing.svg);
     get('title').textContent = game.title;
     document.title = game.title;
     get('rules').textContent = game.text;
