@@ -119,13 +119,21 @@ fn plain_signs<'a>(
     let width = least_width(names);
     let mut signs = Vec::new(alloc);
     for (index, name) in names.iter().enumerate() {
-        signs.push(if empty == Some(index as Piece) {
+        signs.push(if is_at(empty, index) {
             EMPTY_SIGN
         } else {
             name.get(..width).unwrap_or(*name)
         })?;
     }
     Ok(signs)
+}
+
+/// Whether a piece is the one of this index.
+fn is_at(piece: Option<Piece>, index: usize) -> bool {
+    match piece {
+        Some(piece) => piece as usize == index,
+        None => false,
+    }
 }
 
 /// The sign that a comment line gives each piece, or nothing.
