@@ -13,7 +13,7 @@ STYLE = pathlib.Path("crates/rbg_view/src/style.rt")
 SCRIPT = pathlib.Path("crates/rbg_view/src/script.rt")
 # the colours of texts, and of frames, each with those that lie below them
 TEXTS = {"ink": ["page"], "soft": ["page"], "mark": ["page"]}
-FRAMES = {"can": ["light", "dark", "changed"], "ring": ["light", "dark", "changed"], "edges": ["page"]}
+FRAMES = {"can": ["light", "dark", "changed"], "ring": ["light", "dark", "changed"], "mark": ["page"], "edges": ["page"]}
 # the inks of signs on pieces, and the brightness below which the first one is taken
 INKS = ("#ffffff", "#111111")
 

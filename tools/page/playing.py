@@ -3,10 +3,11 @@
 should; then whether `./rbg replay` calls each saved record good. It needs a browser and its driver (browser.py).
 
     python3 tools/page/playing.py            plays all of them
-    python3 tools/page/playing.py chess hex  plays these; capture, edits, page, comments, looks and times are other trials
+    python3 tools/page/playing.py chess hex  plays these; capture, edits, page, spelling, comments, looks and times are other trials
 """
 
 import argparse
+import itertools
 import pathlib
 import re
 import subprocess
@@ -145,8 +146,8 @@ def squares_left(page):
 
 
 def passes(page):
-    """How many moves were a pass."""
-    return page.run("return RbgPlay.state().steps.slice(1).filter(step => step.told === 'pass').length")
+    """How many moves changed no piece."""
+    return page.run("return RbgPlay.state().steps.slice(1).filter(step => step.changed.length === 0).length")
 
 
 def save_position(page):
@@ -327,6 +328,39 @@ def play_page(words, page):
     print(f"page: a list of {last} moves has a page, and {last} and other numbers after its address lead where they should", flush=True)
 
 
+def printed(words, *others, given=""):
+    """The lines that a command of the author's program prints."""
+    made = subprocess.run([words.author, *others], input=given, capture_output=True, text=True)
+    return made.stdout.splitlines()
+
+
+def play_spelling(words, page):
+    """Each move is spelt alike by `show`, on pages, by `moves` and where it is played."""
+    count = 0
+    for game in sorted(DATA.glob("*.rbg")):
+        moves = "\n".join(moves_of(game.with_suffix(".moves")))
+        shown = [line for line in printed(words, "show", game, given=moves) if re.match("[0-9]+ [^:]*: ", line)]
+        file = words.folder / f"{game.stem}_spelt.html"
+        file.write_text("\n".join(printed(words, "page", game, given=moves)))
+        page_at(page, f"file://{file.resolve()}")
+        spelt = "return Array.from(document.querySelectorAll('#moves li')).slice(1).map(item => item.firstChild.textContent.split('; keeper: ')[0])"
+        for one, other in itertools.zip_longest(shown, page.run(spelt)):
+            if one != other:
+                sys.exit(f"{game.stem}: show spells {one!r}, and the page {other!r}")
+        listed = [line for line in printed(words, "moves", game) if line != "cut"]
+        with Server(words.author, game) as server:
+            page.open(server.link)
+            ready(page, 0)
+            spelt = "return legal.map(({ changed, pairs }) => RbgBoard.spell(game, drawing, changed, pairs) + ' (' + pairs.join(' ') + ')')"
+            offered = page.run("const { game, drawing, legal } = RbgPlay.state();" + spelt)
+            for one, other in zip(listed, offered):
+                if one != other:
+                    sys.exit(f"{game.stem}: moves spells {one!r}, and the page {other!r}")
+            leave(page, game.stem)
+        count += len(shown) + min(len(listed), len(offered))
+    print(f"spelling: {count} moves are spelt alike by show, moves and pages", flush=True)
+
+
 def play_comments(words, page):
     """Comment lines say where vertices are and how a piece is drawn."""
     with tempfile.TemporaryDirectory() as folder:
@@ -397,7 +431,7 @@ def main():
         sys.exit("there is no chromium with its driver: apt-get install chromium chromium-driver")
     words.folder = words.folder or pathlib.Path(tempfile.mkdtemp())
     words.folder.mkdir(parents=True, exist_ok=True)
-    others = {"capture": play_capture, "edits": play_edits, "page": play_page, "comments": play_comments, "times": play_times}
+    others = {"capture": play_capture, "edits": play_edits, "page": play_page, "spelling": play_spelling, "comments": play_comments, "times": play_times}
     with browser.Browser() as page:
         if not words.names or "chess" in words.names:
             play_chess(words, page)

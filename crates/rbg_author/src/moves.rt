@@ -4,12 +4,12 @@ ghost use Rattle.rbg_rules.specs.Meaning.{IsPlaceOf};
 use crate::game_files::{Read, load_text, read_moves, read_text, source_name, unreadable};
 use crate::page::{TOO_LONG, refused};
 use crate::report::Report;
-use rbg_base::{Move, Pair, Piece, Vertex};
+use rbg_base::{Move, Pair, Piece};
 use rbg_console::{Files, Input, Status};
 use rbg_game::{Layout, LoadedGame};
 use rbg_moves::{Over, Place, PlayedGame, Unsettled};
 use rbg_record::place_after;
-use rbg_rules::{Action, Game};
+use rbg_view::MoveSpeller;
 use rbg_wire::{after_text, cut_number, read_pairs, write_number, write_pairs};
 use std::alloc::{AllocError, Global};
 use std::io;
@@ -127,8 +127,7 @@ fn readable_lines(
     requires { IsPlaceOf game.now place.now }
 {
     let writer = MoveWriter {
-        game: game.as_game(),
-        layout,
+        speller: MoveSpeller::new(game.as_game(), layout),
         pieces: place.state.pieces(),
     };
     let mut text = Vec::new(alloc);
@@ -173,8 +172,7 @@ fn moves_at(
     match game.list_moves(place, MOST) {
         Ok(listed) => {
             let writer = MoveWriter {
-                game: game.as_game(),
-                layout,
+                speller: MoveSpeller::new(game.as_game(), layout),
                 pieces: place.state.pieces(),
             };
             writer.report(alloc, &listed.moves, listed.cut)
@@ -195,8 +193,7 @@ fn over(alloc: Global) -> Result<Report, AllocError> {
 /// Writes the moves of a place as people read them.
 #[derive(Clone, Copy)]
 struct MoveWriter<'a> {
-    game: &'a Game,
-    layout: &'a Layout,
+    speller: MoveSpeller<'a>,
     /// What stands on the vertices.
     pieces: &'a [Piece],
 }
@@ -231,75 +228,12 @@ impl MoveWriter<'_> {
         })
     }
 
-    /// Writes the squares whose piece a move changes, and its pairs: `36 . > w (36 7 36 8)`.
+    /// Writes a move as people read it, and its pairs: `e2 p > ., e4 . > p (52 7 36 8)`.
     fn push_move(&self, pairs: &[Pair], text: &mut Vec<u8>) -> Result<(), AllocError> {
-        let from = text.len();
-        for (index, pair) in pairs.iter().enumerate() {
-            let later = pairs.get(index..).unwrap_or(&[]);
-            if !is_changed_again(later, pair.vertex, self.game) {
-                self.push_change(pair, from, text)?;
-            }
-        }
-        if text.len() == from {
-            self.push_place(pairs, text)?;
-        }
+        self.speller.push_move(self.pieces, pairs, text)?;
         text.extend_from_slice(b" (")?;
         write_pairs(pairs, text)?;
         text.extend_from_slice(b")\n")
-    }
-
-    /// Writes what becomes of the piece of a vertex, if another one stands there then.
-    fn push_change(&self, pair: &Pair, from: usize, text: &mut Vec<u8>) -> Result<(), AllocError> {
-        let Some(new) = put_by(self.game, pair) else {
-            return Ok(());
-        };
-        let old = self
-            .pieces
-            .get(pair.vertex as usize)
-            .copied()
-            .unwrap_or(new);
-        if old == new {
-            return Ok(());
-        }
-        if text.len() > from {
-            text.extend_from_slice(b", ")?;
-        }
-        self.push_vertex(pair.vertex, text)?;
-        text.extend_from_slice(b" ")?;
-        self.push_piece(old, text)?;
-        text.extend_from_slice(b" > ")?;
-        self.push_piece(new, text)
-    }
-
-    /// Writes where a move is made that changes no piece.
-    fn push_place(&self, pairs: &[Pair], text: &mut Vec<u8>) -> Result<(), AllocError> {
-        text.extend_from_slice(b"at ")?;
-        match pairs.first() {
-            Some(pair) => self.push_vertex(pair.vertex, text),
-            None => Ok(()),
-        }
-    }
-
-    /// Writes a vertex: its name in a graph, else its number.
-    fn push_vertex(&self, vertex: Vertex, text: &mut Vec<u8>) -> Result<(), AllocError> {
-        if let Layout::Graph { names } = self.layout
-            && let Some(name) = names.get(vertex as usize)
-        {
-            return text.extend_from_slice(name);
-        }
-        write_number(u64::from(vertex), text)
-    }
-
-    /// Writes the name of a piece, or a point for the empty one.
-    fn push_piece(&self, piece: Piece, text: &mut Vec<u8>) -> Result<(), AllocError> {
-        if (piece as usize) < self.game.pieces() {
-            match self.game.piece_name(piece) {
-                "e" | "empty" => text.extend_from_slice(b"."),
-                name => text.extend_from_slice(name.as_bytes()),
-            }
-        } else {
-            Ok(())
-        }
     }
 }
 
@@ -308,25 +242,4 @@ fn listed_in(line: &[u8]) -> Option<Move> {
     let after = after_text(b"move ", line)?;
     let (_, pairs) = cut_number(after)?;
     read_pairs(pairs).ok()
-}
-
-/// The piece that a pair puts, if it puts one.
-fn put_by(game: &Game, pair: &Pair) -> Option<Piece> {
-    if pair.position == 0 || pair.position as usize > game.positions() {
-        return None;
-    }
-    match game.action(pair.position) {
-        Action::Off { piece } => Some(*piece),
-        _ => None,
-    }
-}
-
-/// Whether one of the pairs after the first puts a piece on the vertex.
-fn is_changed_again(pairs: &[Pair], vertex: Vertex, game: &Game) -> bool {
-    for pair in pairs.iter().skip(1) {
-        if pair.vertex == vertex && put_by(game, pair).is_some() {
-            return true;
-        }
-    }
-    false
 }

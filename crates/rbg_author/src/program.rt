@@ -64,21 +64,7 @@ fn answer<F: Files, R: io::Read, W: Write>(
     // the parse refuses words without a command and its file
     match matches.subcommand() {
         Some(("perft", words)) => perft_of(alloc, words, files, output),
-        Some(("playouts", words)) => {
-            let wanted = Wanted {
-                seed: words.get_one::<u64>("seed").unwrap_or(USUAL_SEED),
-                count: count_of(words),
-                records: words.get_str("record"),
-            };
-            playouts_file(alloc, files, file_of(words), wanted)
-        }
-        Some(("show", words)) => {
-            let shown = Shown {
-                record: words.get_str("RECORD"),
-                only_last: words.get_flag("last"),
-            };
-            show_file(alloc, files, file_of(words), shown, input)
-        }
+        Some(("playouts", words)) => playouts_of(alloc, words, files),
         Some(("check" | "lint", words)) => {
             let strict = words.get_flag("strict");
             check_file(alloc, files, input, file_of(words), strict)
@@ -86,30 +72,62 @@ fn answer<F: Files, R: io::Read, W: Write>(
         Some(("lsp", _)) => serve_editor(alloc, files, input, output),
         Some(("import", words)) => import_file(alloc, files, input, file_of(words)),
         Some(("board", words)) => board_file(alloc, files, input, file_of(words)),
-        Some(("page", words)) => {
-            let record = words.get_str("RECORD");
-            page_file(alloc, files, file_of(words), record, input)
-        }
-        Some(("moves", words)) => {
-            let record = words.get_str("RECORD");
-            moves_file(alloc, files, file_of(words), record, input)
-        }
         // (the program serves it before it comes here)
         Some(("play", _)) => no_network(alloc),
-        Some(("position" | "setup", words)) => {
-            let record = words.get_str("RECORD");
-            position_file(alloc, files, file_of(words), record, input)
-        }
-        Some((_, words)) => {
-            let lists = Lists {
-                vertices: words.get_flag("vertices"),
-                positions: words.get_flag("positions"),
-                is_for_tools: words.get_flag("json"),
-            };
-            explain_file(alloc, files, input, file_of(words), lists)
-        }
+        Some(("explain", words)) => explain_of(alloc, words, files, input),
+        Some((command, words)) => answer_of_moves(alloc, command, words, files, input),
         None => check_file(alloc, files, input, "", false),
     }
+}
+
+/// Does what a command asks for that reads a record or a list of moves.
+fn answer_of_moves<F: Files, R: io::Read>(
+    alloc: Global,
+    command: &str,
+    words: &ArgMatches<'_>,
+    files: &mut F,
+    input: &mut R,
+) -> Result<Report, AllocError> {
+    let file = file_of(words);
+    let record = words.get_str("RECORD");
+    match command {
+        "show" => {
+            let only_last = words.get_flag("last");
+            show_file(alloc, files, file, Shown { record, only_last }, input)
+        }
+        "page" => page_file(alloc, files, file, record, input),
+        "moves" => moves_file(alloc, files, file, record, input),
+        _ => position_file(alloc, files, file, record, input),
+    }
+}
+
+/// Plays matches as the words of `playouts` say.
+fn playouts_of<F: Files>(
+    alloc: Global,
+    words: &ArgMatches<'_>,
+    files: &mut F,
+) -> Result<Report, AllocError> {
+    let wanted = Wanted {
+        seed: words.get_one::<u64>("seed").unwrap_or(USUAL_SEED),
+        count: count_of(words),
+        records: words.get_str("record"),
+    };
+    playouts_file(alloc, files, file_of(words), wanted)
+}
+
+/// Explains what the words of `explain` say.
+fn explain_of<F: Files, R: io::Read>(
+    alloc: Global,
+    words: &ArgMatches<'_>,
+    files: &mut F,
+    input: &mut R,
+) -> Result<Report, AllocError> {
+    let lists = Lists {
+        vertices: words.get_flag("vertices"),
+        positions: words.get_flag("positions"),
+        is_for_tools: words.get_flag("json"),
+    };
+    explain_file(alloc, files, input, file_of(words), lists)
 }
 
 /// Counts as the words of `perft` say.

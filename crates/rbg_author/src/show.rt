@@ -46,7 +46,7 @@ fn show_moves(
 ) -> Result<Report, AllocError> {
     match load_text(alloc, file, text)? {
         Read::Found(loaded) if is_listing(moves) => readable_listing(alloc, loaded, moves),
-        Read::Found(loaded) => show_loaded(alloc, loaded, moves, only_last),
+        Read::Found(loaded) => show_loaded(alloc, loaded, text, moves, only_last),
         Read::Other(report) => Ok(report),
     }
 }
@@ -54,10 +54,11 @@ fn show_moves(
 fn show_loaded(
     alloc: Global,
     loaded: LoadedGame,
+    text: &[u8],
     moves: &[u8],
     only_last: bool,
 ) -> Result<Report, AllocError> {
-    let shown = show(alloc, loaded, moves, only_last)?;
+    let shown = show(alloc, loaded, text, moves, only_last)?;
     Ok(Report {
         text: shown.text,
         status: if shown.is_whole {

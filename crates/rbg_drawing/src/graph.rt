@@ -1,17 +1,20 @@
-//! The plan of a graph: by the places that comments say; else by directions with names like `up`; else by numbers.
+//! The plan of a graph: by the places that comments say; else by directions with names like `up`; else by a direction
+//! through all vertices; else by numbers.
 
 use crate::edges::Edge;
 use crate::named_turns::placed_by_names;
 use crate::plan::{Plan, Shape, Use};
 use crate::point::{Point, steps};
+use crate::ways::placed_by_way;
 use crate::wishes::Wishes;
 use rbg_rules::Game;
 use std::alloc::{AllocError, Global};
 
-/// A graph: how many vertices it has, and its edges.
+/// A graph: how many vertices it has, how long their longest name is, and its edges.
 #[derive(Clone, Copy)]
 pub(crate) struct Graph<'a> {
     pub count: usize,
+    pub longest: usize,
     pub edges: &'a [Edge],
 }
 
@@ -25,6 +28,11 @@ pub(crate) struct Placing {
 /// From a vertex to the next one.
 const STEP: i64 = 1300;
 
+/// From a vertex to the middle of its name, and half of how wide a letter is at most.
+const TO_NAME: i64 = 460;
+
+const HALF_LETTER: i64 = 80;
+
 pub(crate) fn graph_plan(
     alloc: Global,
     game: &Game,
@@ -34,12 +42,16 @@ pub(crate) fn graph_plan(
 ) -> Result<Plan, AllocError> {
     let graph = Graph {
         count: names.len(),
+        longest: longest_of(names),
         edges,
     };
     if let Some(placing) = placed_by_comments(alloc, names, wishes)? {
         return plan_of_placing(alloc, graph, placing, false);
     }
     if let Some(placing) = placed_by_names(alloc, game, graph)? {
+        return plan_of_placing(alloc, graph, placing, false);
+    }
+    if let Some(placing) = placed_by_way(alloc, game.directions(), graph)? {
         return plan_of_placing(alloc, graph, placing, false);
     }
     let placing = placed_by_number(alloc, graph)?;
@@ -61,8 +73,18 @@ fn plan_of_placing(
         dark: Vec::new(alloc),
         lines,
         labels: Vec::new(alloc),
+        reach: steps(graph.longest, HALF_LETTER).saturating_add(TO_NAME),
         uses,
     })
+}
+
+/// The length of the longest name.
+fn longest_of(names: &[Vec<u8>]) -> usize {
+    let mut longest = 0usize;
+    for name in names {
+        longest = longest.max(name.len());
+    }
+    longest
 }
 
 /// The places that comments say, if they say those of all vertices.

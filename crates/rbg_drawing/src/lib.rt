@@ -13,7 +13,10 @@ mod point;
 mod ranks;
 mod rows;
 mod squares;
+mod ways;
 mod wishes;
 
 pub use picture::push_picture;
 pub use plan_lines::push_plan;
+pub use squares::push_square;
+pub use wishes::Wishes;

@@ -6,6 +6,7 @@ use crate::graph::use_of;
 use crate::plan::{Plan, Shape, Use, plan_of};
 use crate::point::{Point, Way, push_length, push_point, steps};
 use crate::squares::{push_part, push_square};
+use crate::wishes::Wishes;
 use rbg_base::Direction;
 use rbg_game::{Game, Layout, LoadedGame};
 use rbg_wire::write_number;
@@ -23,13 +24,17 @@ const BESIDE: i64 = 600;
 
 const LINE: i64 = 650;
 
-/// How long an arrow of the list is, and where the name begins.
-const ARROW: i64 = 600;
+/// How long an arrow of the list is, the room for it, and where the name begins.
+const ARROW: i64 = 500;
+
+const ROOM: i64 = 600;
 
 const NAME: i64 = 900;
 
-/// How wide a letter of the list is at most.
+/// How wide a letter of the list is at most, and what is beside the names.
 const LETTER: i64 = 240;
+
+const MARGIN: i64 = 200;
 
 /// From the middle of a square to the ends of arrows between squares, and how far these are beside the middle.
 const RIM: i64 = 390;
@@ -81,7 +86,8 @@ pub fn push_picture(
     out: &mut Vec<u8>,
 ) -> Result<(), AllocError> {
     let edges = edges_of(alloc, &loaded.game)?;
-    let plan = plan_of(alloc, loaded, text, edges.as_slice())?;
+    let wishes = Wishes::read(alloc, text)?;
+    let plan = plan_of(alloc, loaded, &wishes, edges.as_slice())?;
     let drawn = Drawn {
         game: &loaded.game,
         layout: &loaded.layout,
@@ -90,6 +96,7 @@ pub fn push_picture(
     };
     drawn.push_head(out)?;
     drawn.push_lines(out)?;
+    drawn.push_windings(out)?;
     drawn.push_labels(out)?;
     drawn.push_squares(out)?;
     drawn.push_directions(out)?;
@@ -125,7 +132,7 @@ impl Drawn<'_> {
             let name = self.game.direction_name(direction as Direction);
             longest = longest.max(name.len());
         }
-        steps(longest, LETTER).saturating_add(BESIDE + NAME)
+        steps(longest, LETTER).saturating_add(BESIDE + NAME + MARGIN)
     }
 
     /// The lines between squares.
@@ -140,6 +147,24 @@ impl Drawn<'_> {
             }
         }
         out.extend_from_slice(b"\" fill=\"none\" stroke=\"#84714c\" stroke-width=\".35\"/>\n")
+    }
+
+    /// The edges of the directions that don't lead the same way from each square, as arrows.
+    fn push_windings(&self, out: &mut Vec<u8>) -> Result<(), AllocError> {
+        for direction in 0..self.game.directions() {
+            if matches!(self.course(direction), Course::Winding) {
+                self.push_edges(direction, colour_of(direction), out)?;
+            }
+        }
+        Ok(())
+    }
+
+    /// Where a direction leads. One that leads to other floors is drawn nowhere.
+    fn course(&self, direction: usize) -> Course {
+        match use_of(&self.plan.uses, direction) {
+            Use::ToFloor => Course::Nowhere,
+            _ => course_of(self.plan, self.edges, direction),
+        }
     }
 
     /// The names of rows and columns.
@@ -211,21 +236,17 @@ impl Drawn<'_> {
         out: &mut Vec<u8>,
     ) -> Result<(), AllocError> {
         if matches!(use_of(&self.plan.uses, direction), Use::ToFloor) {
-            push_text_head(at.moved(ARROW / 2, 94), OF_LABEL, out)?;
+            push_text_head(at.moved(ROOM / 2, 94), OF_LABEL, out)?;
             return out.extend_from_slice(b"floor</text>\n");
         }
-        match course_of(self.plan, self.edges, direction) {
+        match self.course(direction) {
             Course::Nowhere => Ok(()),
             Course::Straight { way } => push_sample(at, way, STRAIGHT, out),
-            Course::Winding => {
-                let colour = WINDING.get(direction % 6).copied().unwrap_or(STRAIGHT);
-                self.push_edges(direction, colour, out)?;
-                push_sample(at, TO_THE_RIGHT, colour, out)
-            }
+            Course::Winding => push_sample(at, TO_THE_RIGHT, colour_of(direction), out),
         }
     }
 
-    /// The edges of a direction that doesn't lead the same way from each square, as arrows.
+    /// The edges of a direction as arrows of a colour.
     fn push_edges(
         &self,
         direction: usize,
@@ -253,9 +274,14 @@ impl Drawn<'_> {
     }
 }
 
+/// The colour of a direction that doesn't lead the same way from each square.
+fn colour_of(direction: usize) -> &'static [u8] {
+    WINDING.get(direction % 6).copied().unwrap_or(STRAIGHT)
+}
+
 /// Appends an arrow that leads a way, in the middle of its place in the list.
 fn push_sample(at: Point, way: Way, colour: &[u8], out: &mut Vec<u8>) -> Result<(), AllocError> {
-    let from = at.moved(ARROW / 2, 0).along(way, -ARROW / 2);
+    let from = at.moved(ROOM / 2, 0).along(way, -ARROW / 2);
     push_arrow(from, from.along(way, ARROW), way, colour, out)
 }
 

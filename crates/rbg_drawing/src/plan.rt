@@ -49,6 +49,8 @@ pub(crate) struct Plan {
     /// The squares between which there are lines.
     pub lines: Vec<(usize, usize)>,
     pub labels: Vec<Label>,
+    /// How far the names of vertices reach to the right of these.
+    pub reach: i64,
     /// How the edges of each direction are drawn; it is empty if all are drawn.
     pub uses: Vec<Use>,
 }
@@ -71,17 +73,16 @@ const ROOM_OF_LABEL: i64 = 200;
 pub(crate) fn plan_of(
     alloc: Global,
     loaded: &LoadedGame,
-    text: &[u8],
+    wishes: &Wishes<'_>,
     edges: &[Edge],
 ) -> Result<Plan, AllocError> {
-    let wishes = Wishes::read(alloc, text)?;
     match &loaded.layout {
         Layout::Rectangle { rows } => {
             let is_for_two = loaded.game.players() == 2;
-            rectangle_plan(alloc, rows, &wishes, is_for_two)
+            rectangle_plan(alloc, rows, wishes, is_for_two)
         }
         Layout::Hexagon { rows } => hexagon_plan(alloc, rows),
-        Layout::Graph { names } => graph_plan(alloc, &loaded.game, names, edges, &wishes),
+        Layout::Graph { names } => graph_plan(alloc, &loaded.game, names, edges, wishes),
     }
 }
 
@@ -99,6 +100,7 @@ impl Plan {
         };
         for point in &self.points {
             frame = frame.widened(*point, room);
+            frame.high.x = frame.high.x.max(point.x.saturating_add(self.reach));
         }
         for label in &self.labels {
             frame = frame.widened(label.at, ROOM_OF_LABEL);

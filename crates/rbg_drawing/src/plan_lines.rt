@@ -4,13 +4,15 @@ use crate::edges::edges_of;
 use crate::plan::{Label, Plan, Shape, plan_of};
 use crate::point::{Point, push_length, push_point};
 use crate::squares::{push_part, push_square};
-use rbg_game::{Layout, LoadedGame};
+use crate::wishes::Wishes;
+use rbg_base::Piece;
+use rbg_game::{Game, Layout, LoadedGame};
 use rbg_wire::put_number;
 use std::alloc::{AllocError, Global};
 
-/// Appends the lines of how a game's board is drawn, as the comment lines of its text wish it: `squares` with their names,
-/// `shape`, `places`, `dark`, `lines` between squares, `labels` and `frame`. For a graph whose vertices nothing places there
-/// are only the first two.
+/// Appends the lines of how a game's board is drawn, as the comment lines of its text wish it: a `sign` for each piece that
+/// they name, `squares` with their names, `shape`, `places`, `dark`, `lines` between squares, `labels` and `frame`. For a
+/// graph whose vertices nothing places the last five aren't there.
 pub fn push_plan(
     alloc: Global,
     loaded: &LoadedGame,
@@ -18,7 +20,9 @@ pub fn push_plan(
     out: &mut Vec<u8>,
 ) -> Result<(), AllocError> {
     let edges = edges_of(alloc, &loaded.game)?;
-    let plan = plan_of(alloc, loaded, text, edges.as_slice())?;
+    let wishes = Wishes::read(alloc, text)?;
+    let plan = plan_of(alloc, loaded, &wishes, edges.as_slice())?;
+    push_signs(&loaded.game, &wishes, out)?;
     push_squares(&loaded.layout, plan.points.len(), out)?;
     out.extend_from_slice(match plan.shape {
         Shape::Square => b"shape square\n".as_slice(),
@@ -34,6 +38,20 @@ pub fn push_plan(
     push_lines(&plan.lines, out)?;
     push_labels(&plan.labels, out)?;
     push_frame(&plan, out)
+}
+
+fn push_signs(game: &Game, wishes: &Wishes<'_>, out: &mut Vec<u8>) -> Result<(), AllocError> {
+    for piece in 0..game.pieces() {
+        let name = game.piece_name(piece as Piece).as_bytes();
+        if let Some(sign) = wishes.sign_of(name) {
+            out.extend_from_slice(b"sign ")?;
+            out.extend_from_slice(name)?;
+            out.extend_from_slice(b" ")?;
+            out.extend_from_slice(sign)?;
+            out.extend_from_slice(b"\n")?;
+        }
+    }
+    Ok(())
 }
 
 fn push_squares(layout: &Layout, count: usize, out: &mut Vec<u8>) -> Result<(), AllocError> {

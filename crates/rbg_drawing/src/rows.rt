@@ -127,6 +127,7 @@ fn rows_plan(alloc: Global, rows: &[usize], shape: Shape, form: Form) -> Result<
         dark: Vec::new(alloc),
         lines: Vec::new(alloc),
         labels: Vec::new(alloc),
+        reach: 0,
         uses: Vec::new(alloc),
     })
 }

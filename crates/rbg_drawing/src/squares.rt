@@ -19,11 +19,7 @@ pub(crate) enum Part {
 
 /// Appends the name of a vertex: that of a graph's, or the letter of its column and the number of its row from below, or in
 /// a hexagon the letter of its row from below and the number of its place in it.
-pub(crate) fn push_square(
-    layout: &Layout,
-    vertex: usize,
-    out: &mut Vec<u8>,
-) -> Result<(), AllocError> {
+pub fn push_square(layout: &Layout, vertex: usize, out: &mut Vec<u8>) -> Result<(), AllocError> {
     match layout {
         Layout::Rectangle { rows } => {
             let (column, level) = spot_of(rows, vertex);

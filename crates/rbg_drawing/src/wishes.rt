@@ -11,23 +11,32 @@ struct Placed<'t> {
     at: Point,
 }
 
+/// A piece and its sign.
+#[derive(Clone, Copy)]
+struct Signed<'t> {
+    name: &'t [u8],
+    sign: &'t [u8],
+}
+
 /// What the comment lines of a description say of how its board is drawn.
 #[derive(Drop)]
-pub(crate) struct Wishes<'t> {
+pub struct Wishes<'t> {
     /// Whether the squares of a rectangle are hexagons.
-    pub is_slanted: bool,
+    pub(crate) is_slanted: bool,
     /// Whether the squares of a rectangle are crossings of lines.
-    pub is_on_points: bool,
+    pub(crate) is_on_points: bool,
     places: Vec<Placed<'t>>,
+    signs: Vec<Signed<'t>>,
 }
 
 impl<'t> Wishes<'t> {
-    /// Reads the lines `// layout ..` of a text.
-    pub(crate) fn read(alloc: Global, text: &'t [u8]) -> Result<Wishes<'t>, AllocError> {
+    /// Reads the lines `// layout ..` and `// piece ..` of a text.
+    pub fn read(alloc: Global, text: &'t [u8]) -> Result<Wishes<'t>, AllocError> {
         let mut wishes = Wishes {
             is_slanted: false,
             is_on_points: false,
             places: Vec::new(alloc),
+            signs: Vec::new(alloc),
         };
         for line in text.split(|byte| *byte == b'\n') {
             if let Some(comment) = after_text(b"//", line.trim_ascii()) {
@@ -44,6 +53,8 @@ impl<'t> Wishes<'t> {
             [b"layout", b"slanted"] => self.is_slanted = true,
             [b"layout", b"points"] => self.is_on_points = true,
             [b"layout", places @ ..] => self.take_places(places)?,
+            [b"piece", name] => self.take_sign(*name, b"")?,
+            [b"piece", name, sign] if is_sign(*sign) => self.take_sign(*name, *sign)?,
             _ => {}
         }
         Ok(())
@@ -65,6 +76,22 @@ impl<'t> Wishes<'t> {
         Ok(())
     }
 
+    fn take_sign(&mut self, name: &'t [u8], sign: &'t [u8]) -> Result<(), AllocError> {
+        self.signs.push(Signed { name, sign })?;
+        Ok(())
+    }
+
+    /// The sign of a piece, if a line says it; it is empty where the piece is to be hidden. The last line counts.
+    pub fn sign_of(&self, name: &[u8]) -> Option<&'t [u8]> {
+        let mut found = None;
+        for signed in &self.signs {
+            if signed.name == name {
+                found = Some(signed.sign);
+            }
+        }
+        found
+    }
+
     /// The place of a vertex, if a line says it. The last line counts.
     pub(crate) fn place_of(&self, name: &[u8]) -> Option<Point> {
         let mut found = None;
@@ -74,6 +101,14 @@ impl<'t> Wishes<'t> {
             }
         }
         found
+    }
+}
+
+/// Whether a word can be printed: it is text without control characters.
+fn is_sign(word: &[u8]) -> bool {
+    match str::from_utf8(word) {
+        Ok(text) => !text.chars().any(|letter| letter.is_control()),
+        Err(_) => false,
     }
 }
 

@@ -29,12 +29,12 @@ pub enum Doubt {
         value: i64,
         holds: bool,
     },
-    /// Before any switch the keeper puts a piece at the position.
+    /// Before any switch the keeper puts a piece at the position, as a player does later.
     KeeperBegins {
         off: Position,
     },
     /// After the `->>` at the position the keeper goes back in the rules without another switch, and puts a piece at a
-    /// position before.
+    /// position before, as a player does.
     GoesBack {
         position: Position,
         off: Position,
@@ -151,7 +151,7 @@ fn is_within(game: &Game, variable: Variable, value: i64) -> bool {
 fn push_keepers(alloc: Global, game: &Game, found: &mut Vec<Doubt>) -> Result<(), Memory> {
     game.is_accepted();
     let steps = compact(alloc, game)?;
-    let mut search = KeeperSearch::new(alloc, game, &steps);
+    let mut search = KeeperSearch::new(alloc, game, &steps)?;
     if let Some(off) = search.first_off()? {
         found.push(Doubt::KeeperBegins { off })?;
     }

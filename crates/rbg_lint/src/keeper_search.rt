@@ -1,4 +1,4 @@
-//! Points in the rules at which the keeper goes back.
+//! Points in the rules at which the keeper does what a player does.
 
 use rbg_auto::{Compact, Expr, Steps};
 use rbg_base::{Memory, Position};
@@ -8,12 +8,14 @@ use std::alloc::Global;
 /// The maximum number of steps of all searches together.
 const MOST_STEPS: usize = 2_000_000;
 
-/// Looks for what the keeper reaches.
+/// Looks for what the keeper reaches. What no player reaches is done by the keeper on purpose.
 #[derive(Drop)]
 pub(crate) struct KeeperSearch<'a> {
     alloc: Global,
     game: &'a Game,
     steps: &'a Compact,
+    /// Which positions are reached from a player's switch without another one.
+    is_players: Vec<bool>,
     /// How many more steps may be taken.
     left: usize,
 }
@@ -26,16 +28,37 @@ struct Reached {
 }
 
 impl<'a> KeeperSearch<'a> {
-    pub fn new(alloc: Global, game: &'a Game, steps: &'a Compact) -> KeeperSearch<'a> {
-        KeeperSearch {
+    pub fn new(
+        alloc: Global,
+        game: &'a Game,
+        steps: &'a Compact,
+    ) -> Result<KeeperSearch<'a>, Memory> {
+        let mut search = KeeperSearch {
             alloc,
             game,
             steps,
+            is_players: Vec::new(alloc),
             left: MOST_STEPS,
-        }
+        };
+        search.is_players = search.reached_by_players()?;
+        Ok(search)
     }
 
-    /// The position of an off that is reached from the beginning of the rules without a switch.
+    /// Which positions are reached from a player's switch without another one.
+    fn reached_by_players(&mut self) -> Result<Vec<bool>, Memory> {
+        let mut reached = self.nothing_reached()?;
+        for index in 0..self.game.positions() {
+            let position = index as Position + 1;
+            if self.is_players_switch(position) {
+                reached.pending.push(position)?;
+            }
+        }
+        // (no position is below 0, so that all are met)
+        self.follow(0, &mut reached)?;
+        Ok(reached.is_met)
+    }
+
+    /// The position of a player's off that is reached from the beginning of the rules without a switch.
     pub fn first_off(&mut self) -> Result<Option<Position>, Memory> {
         let mut reached = self.nothing_reached()?;
         let steps = self.steps;
@@ -46,7 +69,7 @@ impl<'a> KeeperSearch<'a> {
         self.follow(Position::MAX, &mut reached)
     }
 
-    /// The position of an off before a switch that is reached from it without another switch.
+    /// The position of a player's off before a switch that is reached from it without another switch.
     pub fn off_before(&mut self, switch: Position) -> Result<Option<Position>, Memory> {
         let mut reached = self.nothing_reached()?;
         reached.pending.push(switch)?;
@@ -84,7 +107,7 @@ impl<'a> KeeperSearch<'a> {
         Ok(None)
     }
 
-    /// Goes to positions. Returns one of an off before the switch, if it comes to one.
+    /// Goes to positions. Returns one of a player's off before the switch, if it comes to one.
     fn meet_all(
         &mut self,
         positions: &[Position],
@@ -94,7 +117,7 @@ impl<'a> KeeperSearch<'a> {
         for next in positions {
             self.left = self.left.saturating_sub(1);
             if meet(&mut reached.is_met, *next) {
-                if *next < switch && self.is_off(*next) {
+                if *next < switch && self.is_players_off(*next) {
                     return Ok(Some(*next));
                 }
                 if self.goes_on(*next) {
@@ -114,8 +137,13 @@ impl<'a> KeeperSearch<'a> {
         }
     }
 
-    fn is_off(&self, position: Position) -> bool {
-        matches!(self.action(position), Some(Action::Off { .. }))
+    fn is_players_off(&self, position: Position) -> bool {
+        matches!(self.is_players.get(position as usize), Some(true))
+            && matches!(self.action(position), Some(Action::Off { .. }))
+    }
+
+    fn is_players_switch(&self, position: Position) -> bool {
+        matches!(self.action(position), Some(Action::Switch { player }) if *player != 0)
     }
 
     /// Whether the keeper's move can continue after a position: its action is no switch and no `{}`.

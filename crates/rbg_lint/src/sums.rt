@@ -4,7 +4,7 @@ use crate::diagnostic::Diagnostic;
 use crate::look::{Look, new_warning};
 use crate::message_writer::MessageWriter;
 use crate::stars::{is_rule, place_at};
-use rbg_macro::{Symbol, Token};
+use rbg_macro::Symbol;
 use std::alloc::{AllocError, Global};
 
 /// Adds each call of a macro whose `+` is a choice between more than what the macro puts.

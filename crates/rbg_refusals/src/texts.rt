@@ -150,7 +150,7 @@ fn show_game<W: Write>(
     facts: &mut Facts<W>,
 ) -> Result<(), Stop> {
     let loaded = load_with_layout(alloc, tokens)?;
-    let shown = show(alloc, loaded, SCRIPT, false)?;
+    let shown = show(alloc, loaded, GAME, SCRIPT, false)?;
     facts.bytes(shown.text.as_slice());
     facts.truth("whole", shown.is_whole);
     Ok(())

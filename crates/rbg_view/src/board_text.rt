@@ -1,15 +1,15 @@
 //! Boards as text.
 
-use crate::signs::Signs;
+use crate::signs::{Signs, width_of};
 use rbg_base::Piece;
+use rbg_drawing::push_square;
 use rbg_game::Layout;
-use rbg_wire::write_number;
 use std::alloc::{AllocError, Global};
 
 /// About how many bytes a line of a graph's vertices has.
 const GRAPH_LINE: usize = 72;
 
-/// How many bytes a cell of a row has, and by how many a row is shifted for each cell that it has less than the longest.
+/// How many columns a cell of a row has, and by how many a row is shifted for each cell that it has less than the longest.
 #[derive(Clone, Copy)]
 struct RowForm {
     cell: usize,
@@ -25,7 +25,7 @@ pub(crate) struct Drawing<'a> {
 }
 
 impl Drawing<'_> {
-    /// Draws the pieces of all vertices in order. A row begins with the number of its first vertex.
+    /// Draws the pieces of all vertices in order. A row begins with the number and the name of its first vertex.
     pub(crate) fn push_board(
         &self,
         output: &mut Vec<u8>,
@@ -40,7 +40,7 @@ impl Drawing<'_> {
                 self.push_rows(output, pieces, rows, form)
             }
             Layout::Hexagon { rows } => {
-                // half a cell is a whole number of bytes
+                // half a cell is a whole number of columns
                 let half = self.signs.width() / 2 + 1;
                 let form = RowForm {
                     cell: half.saturating_mul(2),
@@ -61,10 +61,12 @@ impl Drawing<'_> {
         form: RowForm,
     ) -> Result<(), AllocError> {
         let longest = longest_of(rows);
+        // (the first vertex of all has the longest name of those at the beginning of a row)
+        let name = self.width_of_name(0)?;
         let mut first = 0usize;
         for row in rows {
             let missing = longest.saturating_sub(*row);
-            self.push_label(output, first)?;
+            self.push_label(output, first, name)?;
             push_spaces(output, missing.saturating_mul(form.shift))?;
             self.push_row(output, row_from(pieces, first, *row), form.cell)?;
             first = first.saturating_add(*row);
@@ -72,10 +74,25 @@ impl Drawing<'_> {
         Ok(())
     }
 
-    /// Writes the number of the first vertex of a row.
-    fn push_label(&self, output: &mut Vec<u8>, first: usize) -> Result<(), AllocError> {
-        let label = format!(in self.alloc; "{first:>4} |")?;
-        output.extend_from_slice(label.as_bytes())
+    /// Writes the number of the first vertex of a row, and its name, which is made as wide as this.
+    fn push_label(
+        &self,
+        output: &mut Vec<u8>,
+        first: usize,
+        width: usize,
+    ) -> Result<(), AllocError> {
+        let label = format!(in self.alloc; "{first:>4} ")?;
+        output.extend_from_slice(label.as_bytes())?;
+        push_square(self.layout, first, output)?;
+        push_spaces(output, width.saturating_sub(self.width_of_name(first)?))?;
+        output.extend_from_slice(b" |")
+    }
+
+    /// How wide the name of a vertex is.
+    fn width_of_name(&self, vertex: usize) -> Result<usize, AllocError> {
+        let mut name = Vec::new(self.alloc);
+        push_square(self.layout, vertex, &mut name)?;
+        Ok(name.len())
     }
 
     /// Draws the cells of a row. There are no spaces at its end.
@@ -90,7 +107,7 @@ impl Drawing<'_> {
             let sign = self.signs.sign(*piece);
             push_spaces(output, gap)?;
             output.extend_from_slice(sign)?;
-            gap = cell.saturating_sub(sign.len());
+            gap = cell.saturating_sub(width_of(sign));
         }
         output.push(b'\n')?;
         Ok(())
@@ -118,57 +135,9 @@ impl Drawing<'_> {
         piece: Piece,
     ) -> Result<(), AllocError> {
         output.push(b' ')?;
-        self.push_vertex(output, vertex)?;
+        push_square(self.layout, vertex, output)?;
         output.push(b':')?;
         output.extend_from_slice(self.signs.sign(piece))
-    }
-
-    /// Writes a vertex: its name in a graph, else its number.
-    pub(crate) fn push_vertex(
-        &self,
-        output: &mut Vec<u8>,
-        vertex: usize,
-    ) -> Result<(), AllocError> {
-        if let Layout::Graph { names } = self.layout
-            && let Some(name) = names.get(vertex)
-        {
-            return output.extend_from_slice(name);
-        }
-        write_number(vertex as u64, output)
-    }
-
-    /// Writes what is different on the board: `4 . > x`, and so on.
-    pub(crate) fn push_changes(
-        &self,
-        output: &mut Vec<u8>,
-        before: &[Piece],
-        after: &[Piece],
-    ) -> Result<(), AllocError> {
-        let mut lead = b" ".as_slice();
-        for (vertex, new) in after.iter().enumerate() {
-            let old = before.get(vertex).unwrap_or(new);
-            if old != new {
-                output.extend_from_slice(lead)?;
-                self.push_change(output, vertex, *old, *new)?;
-                lead = b", ";
-            }
-        }
-        Ok(())
-    }
-
-    /// Writes what has become of the piece on a vertex.
-    fn push_change(
-        &self,
-        output: &mut Vec<u8>,
-        vertex: usize,
-        old: Piece,
-        new: Piece,
-    ) -> Result<(), AllocError> {
-        self.push_vertex(output, vertex)?;
-        output.push(b' ')?;
-        output.extend_from_slice(self.signs.sign(old))?;
-        output.extend_from_slice(b" > ")?;
-        output.extend_from_slice(self.signs.sign(new))
     }
 }
 

@@ -11,6 +11,7 @@ mod head;
 pub mod laws;
 mod line;
 mod move_readings;
+mod move_text;
 mod places;
 mod record_page;
 mod scene;
@@ -24,6 +25,7 @@ mod tail;
 mod texts;
 
 pub use game_lines::push_game;
+pub use move_text::MoveSpeller;
 pub use record_page::page;
 pub use script::BOARD_SCRIPT;
 pub use shown_moves::{ShownMoves, show};

@@ -84,7 +84,7 @@ impl Scene<'_> {
         self.sheet.begin_move(&self.play)?;
         let is_legal = self.play.try_pairs(pairs)?;
         if is_legal {
-            self.sheet.write_move(&self.play, player)?;
+            self.sheet.write_move(&self.play, player, pairs.as_slice())?;
             Ok(true)
         } else {
             Ok(false)
@@ -126,7 +126,7 @@ impl Scene<'_> {
     {
         self.sheet.begin_move(&self.play)?;
         self.play.make(pairs)?;
-        self.sheet.write_move(&self.play, 0)
+        self.sheet.write_move(&self.play, 0, pairs)
     }
 
     /// Says that a seat's message is refused.

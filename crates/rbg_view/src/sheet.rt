@@ -5,9 +5,11 @@ ghost use Rattle.rbg_view.specs.declared.stop.Stop.TheVariants.{Memory as NoMemo
 
 use crate::board_text::Drawing;
 use crate::ending::{put_end, put_stop, put_who};
+use crate::move_text::MoveSpeller;
 use crate::signs::Signs;
 use crate::stop::Stop;
-use rbg_base::{Piece, Player, Variable};
+use rbg_base::{Pair, Piece, Player, Variable};
+use rbg_drawing::Wishes;
 use rbg_game::{Game, Layout};
 use rbg_moves::Playthrough;
 use rbg_wire::{Outcome, write_number};
@@ -18,6 +20,7 @@ use std::alloc::{AllocError, Global};
 pub(crate) struct Sheet<'a> {
     alloc: Global,
     drawing: Drawing<'a>,
+    speller: MoveSpeller<'a>,
     pub text: Vec<u8>,
     /// How much of the text stays where only the last move is shown.
     kept: usize,
@@ -36,9 +39,10 @@ impl<'a> Sheet<'a> {
         alloc: Global,
         game: &'a Game,
         layout: &'a Layout,
+        wishes: &Wishes<'_>,
         only_last: bool,
     ) -> Result<Sheet<'a>, AllocError> {
-        let signs = Signs::of(alloc, game)?;
+        let signs = Signs::of(alloc, game, wishes)?;
         let mut text = Vec::new(alloc);
         signs.push_legend(&mut text)?;
         let kept = text.len();
@@ -49,6 +53,7 @@ impl<'a> Sheet<'a> {
                 layout,
                 signs,
             },
+            speller: MoveSpeller::new(game, layout),
             text,
             kept,
             only_last,
@@ -77,22 +82,23 @@ impl<'a> Sheet<'a> {
         self.before.extend_from_slice(play.pieces())
     }
 
-    /// Says what a move of a player has changed. The keeper's moves that change no piece are not written.
+    /// Says what a move of these pairs has changed. The keeper's moves that change no piece are not written.
     pub(crate) fn write_move(
         &mut self,
         play: &Playthrough<'_>,
         player: Player,
+        pairs: &[Pair],
     ) -> Result<(), AllocError> {
         self.is_new = true;
         if player != 0 {
             self.number_move(play.game(), player)?;
-            return self.write_changes(play.pieces());
+            return self.write_changes(pairs);
         }
         if self.before.as_slice() == play.pieces() {
             return Ok(());
         }
         self.text.extend_from_slice(b"keeper:")?;
-        self.write_changes(play.pieces())
+        self.write_changes(pairs)
     }
 
     /// Begins the line of a player's move.
@@ -108,10 +114,11 @@ impl<'a> Sheet<'a> {
         self.text.extend_from_slice(b":")
     }
 
-    /// Says what is different on the board since a move was begun, and ends the line.
-    fn write_changes(&mut self, after: &[Piece]) -> Result<(), AllocError> {
-        self.drawing
-            .push_changes(&mut self.text, self.before.as_slice(), after)?;
+    /// Says what these pairs change on the board as it was when the move was begun, and ends the line.
+    fn write_changes(&mut self, pairs: &[Pair]) -> Result<(), AllocError> {
+        self.text.push(b' ')?;
+        self.speller
+            .push_move(self.before.as_slice(), pairs, &mut self.text)?;
         self.text.extend_from_slice(b"\n")
     }
 

@@ -12,6 +12,7 @@ use crate::move_readings::{Lead, readings, said_readings};
 use crate::scene::Scene;
 use crate::sheet::Sheet;
 use crate::stop::Stop;
+use rbg_drawing::Wishes;
 use rbg_game::LoadedGame;
 use rbg_moves::{PlayedGame, Playthrough, Unsettled};
 use rbg_wire::{Outcome, cut_at};
@@ -31,7 +32,8 @@ pub struct ShownMoves {
 }
 
 /// Shows the moves of a list on the board of a game: for each of them what it changes, and the board after it with the
-/// values of the variables. With `only_last` only the last of a player's moves is shown.
+/// values of the variables. With `only_last` only the last of a player's moves is shown. Comment lines of the game's text
+/// may give signs to pieces.
 ///
 /// A move is a line: its pairs, perhaps after a player, or after a moment and a player, or a message of a script.
 /// The other lines of records and scripts are passed over, and the end of a record is written at the end. Where the keeper
@@ -41,6 +43,7 @@ pub struct ShownMoves {
 pub fn show(
     alloc: Global,
     loaded: LoadedGame,
+    text: &[u8],
     moves: &[u8],
     only_last: bool,
 ) -> Result<ShownMoves, AllocError>
@@ -48,7 +51,8 @@ pub fn show(
 {
     let LoadedGame { game, layout } = loaded;
     let game = PlayedGame::new(alloc, game)?;
-    let sheet = Sheet::new(alloc, game.as_game(), &layout, only_last)?;
+    let wishes = Wishes::read(alloc, text)?;
+    let sheet = Sheet::new(alloc, game.as_game(), &layout, &wishes, only_last)?;
     let play = Playthrough::start(alloc, &game)?;
     let mut showing = Showing {
         alloc,

@@ -1,55 +1,50 @@
 //! The signs by which pieces are shown.
 
+use crate::move_text::{EMPTY_SIGN, empty_of};
 use rbg_base::Piece;
+use rbg_drawing::Wishes;
 use rbg_game::Game;
 use std::alloc::{AllocError, Global};
 
-/// The name of a piece that stands for an empty vertex, and the one that counts where no piece has it.
-const EMPTY_NAME: &[u8] = b"e";
-
-const LONG_EMPTY_NAME: &[u8] = b"empty";
-
-/// The sign of that piece.
-const EMPTY_SIGN: &[u8] = b".";
-
-/// The signs of a game's pieces: a point for the empty one, and the names of the others, cut at the least width at
-/// which all names differ.
+/// The signs of a game's pieces: those that comment lines give them, a point for the empty one, and the names of the
+/// others, cut at the least width at which all names differ. A sign that would be that of two pieces is given to neither.
 #[derive(Drop)]
 pub(crate) struct Signs<'a> {
-    /// The name of each piece.
+    /// The name of each piece, and its sign.
     names: Vec<&'a [u8]>,
-    empty: Option<usize>,
+    signs: Vec<Vec<u8>>,
     width: usize,
 }
 
 impl<'a> Signs<'a> {
-    pub(crate) fn of(alloc: Global, game: &'a Game) -> Result<Signs<'a>, AllocError> {
+    pub(crate) fn of(
+        alloc: Global,
+        game: &'a Game,
+        wishes: &Wishes<'_>,
+    ) -> Result<Signs<'a>, AllocError> {
         let names = names_of(alloc, game)?;
-        let empty = empty_of(names.as_slice());
-        let width = least_width(names.as_slice());
+        let signs = signs_of(alloc, names.as_slice(), empty_of(game), wishes)?;
+        let width = widest_of(signs.as_slice());
         Ok(Signs {
             names,
-            empty,
+            signs,
             width,
         })
     }
 
-    /// The greatest length of a sign.
+    /// The greatest width of a sign.
     pub(crate) fn width(&self) -> usize {
         self.width
     }
 
     /// The sign of a piece.
-    pub(crate) fn sign(&self, piece: Piece) -> &'a [u8] {
-        self.sign_of(piece as usize)
+    pub(crate) fn sign(&self, piece: Piece) -> &[u8] {
+        self.sign_at(piece as usize)
     }
 
-    fn sign_of(&self, piece: usize) -> &'a [u8] {
-        if self.empty == Some(piece) {
-            return EMPTY_SIGN;
-        }
-        match self.names.get(piece) {
-            Some(name) => name.get(..self.width).unwrap_or(*name),
+    fn sign_at(&self, index: usize) -> &[u8] {
+        match self.signs.get(index) {
+            Some(sign) => sign.as_slice(),
             None => b"?",
         }
     }
@@ -58,7 +53,7 @@ impl<'a> Signs<'a> {
     pub(crate) fn push_legend(&self, output: &mut Vec<u8>) -> Result<(), AllocError> {
         output.extend_from_slice(b"pieces")?;
         for (piece, name) in self.names.iter().enumerate() {
-            let sign = self.sign_of(piece);
+            let sign = self.sign_at(piece);
             output.push(b' ')?;
             output.extend_from_slice(sign)?;
             if sign != *name {
@@ -71,6 +66,17 @@ impl<'a> Signs<'a> {
     }
 }
 
+/// How many columns a sign takes: as many as it has characters.
+pub(crate) fn width_of(sign: &[u8]) -> usize {
+    // (the later bytes of a character of UTF-8 begin with the bits 10)
+    sign.iter().filter(|byte| **byte & 0xC0 != 0x80).count()
+}
+
+/// The item of an index, or nothing.
+fn item_of<'a>(items: &[&'a [u8]], index: usize) -> &'a [u8] {
+    items.get(index).copied().unwrap_or(&[])
+}
+
 /// The name of each piece.
 fn names_of(alloc: Global, game: &Game) -> Result<Vec<&[u8]>, AllocError> {
     let mut names = Vec::new(alloc);
@@ -80,22 +86,86 @@ fn names_of(alloc: Global, game: &Game) -> Result<Vec<&[u8]>, AllocError> {
     Ok(names)
 }
 
-/// The piece that stands for an empty vertex.
-fn empty_of(names: &[&[u8]]) -> Option<usize> {
-    match index_of(names, EMPTY_NAME) {
-        Some(index) => Some(index),
-        None => index_of(names, LONG_EMPTY_NAME),
+/// The sign of each piece: the wanted one, if no other piece might have it, or else the plain one.
+fn signs_of(
+    alloc: Global,
+    names: &[&[u8]],
+    empty: Option<Piece>,
+    wishes: &Wishes<'_>,
+) -> Result<Vec<Vec<u8>>, AllocError> {
+    let plain = plain_signs(alloc, names, empty)?;
+    let wanted = wanted_signs(alloc, names, wishes)?;
+    let mut signs = Vec::new(alloc);
+    for piece in 0..names.len() {
+        let sign = item_of(wanted.as_slice(), piece);
+        let is_free = !sign.is_empty()
+            && !is_of_other(wanted.as_slice(), sign, piece)
+            && !is_of_other(plain.as_slice(), sign, piece);
+        signs.push(if is_free {
+            sign.to_vec(alloc)?
+        } else {
+            item_of(plain.as_slice(), piece).to_vec(alloc)?
+        })?;
+    }
+    Ok(signs)
+}
+
+/// The sign of each piece if no comment line gives it one.
+fn plain_signs<'a>(
+    alloc: Global,
+    names: &[&'a [u8]],
+    empty: Option<Piece>,
+) -> Result<Vec<&'a [u8]>, AllocError> {
+    let width = least_width(names);
+    let mut signs = Vec::new(alloc);
+    for (index, name) in names.iter().enumerate() {
+        signs.push(if is_at(empty, index) {
+            EMPTY_SIGN
+        } else {
+            name.get(..width).unwrap_or(*name)
+        })?;
+    }
+    Ok(signs)
+}
+
+/// Whether a piece is the one of this index.
+fn is_at(piece: Option<Piece>, index: usize) -> bool {
+    match piece {
+        Some(piece) => piece as usize == index,
+        None => false,
     }
 }
 
-/// The index of the first of these names that is the wanted one.
-fn index_of(names: &[&[u8]], wanted: &[u8]) -> Option<usize> {
-    for (index, name) in names.iter().enumerate() {
-        if *name == wanted {
-            return Some(index);
+/// The sign that a comment line gives each piece, or nothing.
+fn wanted_signs<'t>(
+    alloc: Global,
+    names: &[&[u8]],
+    wishes: &Wishes<'t>,
+) -> Result<Vec<&'t [u8]>, AllocError> {
+    let mut wanted = Vec::new(alloc);
+    for name in names {
+        wanted.push(wishes.sign_of(name).unwrap_or(&[]))?;
+    }
+    Ok(wanted)
+}
+
+/// Whether a sign is that of another piece than this one.
+fn is_of_other(signs: &[&[u8]], sign: &[u8], piece: usize) -> bool {
+    for (index, other) in signs.iter().enumerate() {
+        if index != piece && *other == sign {
+            return true;
         }
     }
-    None
+    false
+}
+
+/// The greatest width of a sign.
+fn widest_of(signs: &[Vec<u8>]) -> usize {
+    let mut width = 1usize;
+    for sign in signs {
+        width = width.max(width_of(sign));
+    }
+    width
 }
 
 /// The least length of at least 1 at which names that are cut there differ.

@@ -14,15 +14,17 @@ pub const BOARD_STYLE: &[u8] =
 @media (prefers-color-scheme: dark) { .board .edges { stroke: #8d7d60; } }
 .board .changed .cell { fill: var(--changed); }
 .board .chosen .cell { fill: var(--now); }
+.board .rows .can .cell, .board .rows .hint .cell, .board .rows g:focus-visible .cell { transform: scale(.94); }
 .board .can .cell { stroke: var(--can); stroke-width: .6; }
 .board .can { cursor: pointer; }
 .board .hint .cell { stroke: var(--ring); stroke-width: 1; }
 .board .dot { fill: none; pointer-events: none; }
 .board .can .dot { fill: var(--can); stroke: #fff; stroke-width: .2; }
 .board .held .dot { display: none; }
-.board .can.held .body { stroke: var(--can); stroke-width: .7; }
 .board .piece { pointer-events: none; }
 .board .body { stroke: #0009; stroke-width: .3; }
+.board .points .changed .body, .board .graph .changed .body { stroke: var(--mark); stroke-width: .9; }
+.board .held.can .piece .body { stroke: var(--can); stroke-width: .7; }
 .board .sign { text-anchor: middle; dominant-baseline: central; font-family: 'DejaVu Sans', 'Segoe UI Symbol', 'Noto Sans Symbols 2', system-ui, sans-serif; }
 .board .name { font-size: 2.6px; text-anchor: middle; dominant-baseline: central; fill: var(--soft); stroke: var(--page); stroke-width: .5; paint-order: stroke; font-family: system-ui, sans-serif; }
 .board g:focus { outline: none; }

@@ -16,11 +16,15 @@ pub(crate) const END: &[u8] = b"(() => {
   const get = id => document.getElementById(id);
   const game = RbgBoard.read(get('game').textContent);
   const drawing = RbgBoard.draw(game);
-  get('board').replaceWith(drawing.svg);
   document.title = game.title;
   const heading = document.createElement('h1');
   heading.textContent = game.title;
   document.body.prepend(heading);
+  const main = document.createElement('main');
+  main.innerHTML = '<div><div id=stage></div><div id=zoom><button title=smaller aria-label=smaller>-</button><button title=larger aria-label=larger>+</button></div></div><div id=side></div>';
+  get('board').replaceWith(main);
+  get('stage').append(drawing.svg);
+  get('side').append(...['play', 'variables', 'values', 'players', 'pieces'].map(get));
   const [start, ...lines] = get('record').textContent.trim().split(LINE);
   const name = player => player > 0 ? game.players[player - 1] : 'the keeper';
 
@@ -47,10 +51,11 @@ pub(crate) const END: &[u8] = b"(() => {
     const numbers = text.split(' ').map(Number);
     const moment = lines[0] === 'rbg 2' ? numbers.shift() : undefined;
     const mover = numbers.shift();
-    if (steps.length === 0) steps.push({ mover: 0, changed: [], ...place });
-    else if (mover > 0) steps.push({ mover, moment, changed: RbgBoard.changes(game, before, numbers), pairs: numbers, ...place });
+    if (steps.length === 0) steps.push({ mover: 0, changed: [], own: board, pairs: [], ...place });
+    else if (mover > 0) steps.push({ mover, moment, changed: RbgBoard.changes(game, before, numbers), own: board, pairs: numbers, ...place });
     else Object.assign(steps[steps.length - 1], place);
   }
+  for (const step of steps) step.settled = RbgBoard.differences(step.own, step.board);
   const began = lines[0] === 'rbg 2' ? Number(lines.find(line => line.startsWith('start ')).split(/[ |]/)[2]) : 0;
   const [how, ...numbers] = lines[lines.length - 1].split(' ').slice(lines[0] === 'rbg 2' ? 1 : 0);
   const outcome = {
@@ -65,9 +70,9 @@ pub(crate) const END: &[u8] = b"(() => {
   for (const step of steps) drawing.learn(step.mover, step.changed);
 
   const seconds = step => step.moment === undefined ? '' : ((step.moment - began) / 1000).toFixed(1) + ' s';
-  const told = (step, at) => at === 0 ? 'start' : at + ' ' + name(step.mover) + ': ' + (RbgBoard.spell(game, drawing, step.changed) || drawing.layout.names[step.pairs[0]]);
+  const told = (step, at) => at === 0 ? 'start' : at + ' ' + name(step.mover) + ': ' + RbgBoard.spellStep(game, drawing, step);
 
-  get('play').innerHTML = '<div id=controls><button title=first>&laquo;</button><button title=back>&lsaquo;</button><input type=range min=0 aria-label=move><button title=on>&rsaquo;</button><button title=last>&raquo;</button><button title=smaller>-</button><button title=larger>+</button></div><p id=now></p><ol id=moves></ol>';
+  get('play').innerHTML = '<div id=controls><button title=first>&laquo;</button><button title=back>&lsaquo;</button><input type=range min=0 aria-label=move><button title=on>&rsaquo;</button><button title=last>&raquo;</button></div><p id=now></p><ol id=moves></ol>';
   const slider = document.querySelector('#controls input');
   slider.max = steps.length - 1;
   steps.forEach((step, at) => {
@@ -98,22 +103,28 @@ pub(crate) const END: &[u8] = b"(() => {
   let zoom = 1;
   const zoomBy = factor => {
     zoom = Math.min(8, Math.max(0.4, zoom * factor));
-    drawing.svg.style.width = 'min(' + (100 * zoom).toFixed(0) + '%, ' + (36 * zoom).toFixed(1) + 'rem, ' + (80 * zoom * drawing.width / drawing.height).toFixed(1) + 'vh)';
+    drawing.svg.style.width = 'min(' + (100 * zoom).toFixed(0) + '%, ' + (78 * zoom * drawing.width / drawing.height).toFixed(1) + 'vh)';
   };
   const buttons = document.querySelectorAll('#controls button');
   buttons[0].onclick = () => go(0);
   buttons[1].onclick = () => go(now - 1);
   buttons[2].onclick = () => go(now + 1);
   buttons[3].onclick = () => go(steps.length - 1);
-  buttons[4].onclick = () => zoomBy(0.8);
-  buttons[5].onclick = () => zoomBy(1.25);
+  const [smaller, larger] = document.querySelectorAll('#zoom button');
+  smaller.onclick = () => zoomBy(0.8);
+  larger.onclick = () => zoomBy(1.25);
   slider.oninput = () => go(Number(slider.value));
   document.onkeydown = event => {
     const to = { ArrowLeft: now - 1, ArrowRight: now + 1, Home: 0, End: steps.length - 1 }[event.key];
     if (to !== undefined) { event.preventDefault(); go(to); }
   };
+  const met = new Set(steps.flatMap(step => step.board));
   Array.from(get('pieces').children).forEach((item, piece) => {
-    if (drawing.looks[piece].hidden) item.remove(); else item.prepend(RbgBoard.pictureOf(drawing.looks[piece]));
+    if (drawing.looks[piece].hidden || !met.has(piece)) item.remove(); else item.prepend(RbgBoard.pictureOf(drawing.looks[piece]));
+  });
+  Array.from(get('players').children).forEach((item, index) => {
+    const look = drawing.looks.find(one => one.owner === index + 1);
+    if (look) item.prepend(RbgBoard.pictureOf({ ...look, hidden: false, shape: 'disc', sign: '' }));
   });
   const asked = location.hash.slice(1);
   const fromHash = text => /^[0-9]+$/.test(text) ? Number(text) : steps.length - 1;

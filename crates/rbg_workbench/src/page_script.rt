@@ -22,6 +22,7 @@ const RbgPlay = (() => {
 
   let chosen = [];
   let focused = 0;
+  let reachable = null;
   let thinking = 0;
   let hinted = [];
   let isBusy = false;
@@ -91,19 +92,19 @@ const RbgPlay = (() => {
     pairs, mover, standing: standingOf(lines.line()), board: lines.numbers(), values: lines.numbers(),
   });
 
-  /* What a move changes by itself, and what the keeper changes behind it. */
+  /* What a move changes by itself, and what the keeper changes after it. */
   const tell = (before, step) => {
     step.changed = RbgBoard.changes(game, before.board, step.pairs);
     const own = before.board.slice();
     for (const { vertex, is } of step.changed) own[vertex] = is;
-    step.settled = step.board.map((piece, vertex) => ({ vertex, was: own[vertex], is: piece })).filter(({ was, is }) => was !== is);
+    step.settled = RbgBoard.differences(own, step.board);
     step.told = told(step.changed, step.pairs);
     return step;
   };
 
-  const signs = changed => RbgBoard.spell(game, drawing, changed);
-  const told = (changed, pairs) => changed.length > 0 ? signs(changed) : isPass(pairs) ? 'pass' : spellPairs(pairs);
+  const told = (changed, pairs) => RbgBoard.spell(game, drawing, changed, pairs);
 
+  /* The squares of pairs, those of variables that are set with their names. */
   const spellPairs = pairs => {
     const parts = [];
     for (let one = 0; one + 1 < pairs.length; one += 2) {
@@ -118,10 +119,8 @@ const RbgPlay = (() => {
 
   const isPass = pairs => pairs.length === 2 && !legal.some(move => move !== pairs && move.pairs !== pairs && move.pairs.length === 2 && move.pairs[1] === pairs[1] && move.pairs[0] !== pairs[0]);
 
-  /* The squares of a move, in the order in which they are clicked: from, to, and what else changes. */
-  const squaresOf = (pairs, board) => {
-    const changed = RbgBoard.changes(game, board, pairs);
-    const mover = steps[at] ? steps[at].standing.player : 0;
+  /* The squares that a move changes, in the order in which they are clicked: from, to, and what else changes. */
+  const inOrder = (changed, mover) => {
     const ownerOf = piece => drawing.looks[piece].owner;
     const isMine = piece => ownerOf(piece) === mover && !drawing.looks[piece].hidden;
     const rank = ({ was, is }, order) => {
@@ -134,28 +133,41 @@ const RbgPlay = (() => {
     /* Of several arrivals the farthest one comes first: a king that castles goes beyond its rook. */
     const ranked = changed.map((change, index) => [rank(change, order), index, change.vertex]).map(([level, index, vertex]) => [level, level === 1 && order.first ? -index : index, vertex]);
     ranked.sort((one, two) => one[0] - two[0] || one[1] - two[1]);
-    const squares = ranked.map(part => part[2]);
-    const others = pairs.filter((_, one) => one % 2 === 0).filter((vertex, one, all) => !squares.includes(vertex) && all.indexOf(vertex) === one);
-    return { changed, squares, others };
+    return ranked.map(part => part[2]);
+  };
+
+  /* Finds the squares of a move, and those of its other pairs. */
+  const findSquares = (move, mover) => {
+    const { changed, pairs } = move;
+    move.squares = changed.length < 2 ? changed.map(change => change.vertex) : inOrder(changed, mover);
+    move.others = [];
+    for (let one = 0; one < pairs.length; one += 2) if (!move.squares.includes(pairs[one]) && !move.others.includes(pairs[one])) move.others.push(pairs[one]);
+  };
+
+  /* Finds what is clicked for each move. Where squares alone don't tell moves apart, those of their other pairs are clicked too. */
+  const findClicks = () => {
+    const keys = new Map();
+    for (const move of legal) {
+      findSquares(move, steps[at].standing.player);
+      const key = move.squares.join(' ');
+      if (keys.has(key)) keys.get(key).push(move); else keys.set(key, [move]);
+    }
+    for (const [key, same] of keys) {
+      const differ = same.length > 1 && new Set(same.map(move => move.others.join(' '))).size > 1;
+      const isPlain = differ && key === '' && same.length < 5 && new Set(same.map(move => move.pairs.filter((_, one) => one % 2 === 1).join(' '))).size === same.length;
+      for (const move of same) move.clicks = differ && !isPlain ? [...move.squares, ...move.others] : move.squares;
+    }
   };
 
   const prepare = (moves, board) => {
-    const player = steps[at].standing.player;
-    drawing.learn(player, moves.flatMap(pairs => RbgBoard.changes(game, board, pairs)));
-    legal = moves.map(pairs => ({ pairs, ...squaresOf(pairs, board) }));
-    /* Where squares alone don't tell moves apart, those of their other pairs are clicked too. */
-    const keys = new Map();
-    for (const move of legal) { const key = move.squares.join(' '); if (!keys.has(key)) keys.set(key, []); keys.get(key).push(move); }
-    for (const [key, same] of keys) {
-      const differ = new Set(same.map(move => move.others.join(' '))).size > 1;
-      const isPlain = key === '' && new Set(same.map(move => move.pairs.filter((_, one) => one % 2 === 1).join(' '))).size === same.length;
-      for (const move of same) move.clicks = differ && !(isPlain && same.length < 5) ? [...move.squares, ...move.others] : move.squares;
-    }
+    legal = moves.map(pairs => ({ pairs, changed: RbgBoard.changes(game, board, pairs) }));
+    drawing.learn(steps[at].standing.player, legal.flatMap(move => move.changed));
+    findClicks();
   };
 
   const fitting = () => legal.filter(move => chosen.every((vertex, index) => move.clicks[index] === vertex));
 
-  /* Shows all. */
+  /* Shows all. A new drawing comes onto the page once its pieces are there. */
   const show = () => {
     const step = steps[at];
     if (!step) return;
@@ -164,7 +176,8 @@ const RbgPlay = (() => {
     const next = new Set(person ? fits.map(move => move.clicks[chosen.length]).filter(vertex => vertex !== undefined) : []);
     const changed = new Set(at > 0 ? [...step.changed, ...step.settled].map(change => change.vertex) : []);
     drawing.show(step.board, vertex => (chosen.includes(vertex) ? 'chosen ' : changed.has(vertex) ? 'changed ' : '') + (next.has(vertex) ? 'can ' : '') + (hinted.includes(vertex) ? 'hint ' : ''));
-    drawing.cells.forEach((cell, vertex) => cell.group.setAttribute('tabindex', vertex === focused ? '0' : '-1'));
+    letFocus(focused);
+    if (!drawing.svg.isConnected) get('stage').replaceChildren(drawing.svg);
     showTurn(step);
     showChoices(person ? fits : []);
     showLists(step);
@@ -223,7 +236,7 @@ const RbgPlay = (() => {
       for (const { is } of differs) label.append(RbgBoard.pictureOf(drawing.looks[is]));
       label.append(differs.map(({ is }) => game.pieces[is]).join(' '));
     } else {
-      label.append(among.length === 1 && move.clicks.length > 0 ? 'Stop here' : told(move.changed, move.pairs) === 'pass' ? 'Pass' : choiceText(move, among));
+      label.append(among.length === 1 && move.clicks.length > 0 ? 'Stop here' : move.changed.length === 0 && isPass(move.pairs) ? 'Pass' : choiceText(move, among));
     }
     const made = button(label, () => play(move));
     made.className = 'choice';
@@ -251,7 +264,7 @@ const RbgPlay = (() => {
         item = document.createElement('li');
         list.append(item);
       }
-      const text = index === 0 ? 'the beginning' : index + ' ' + playerName(one.mover) + ': ' + one.told + (one.settled.length > 0 && one.settled.length < 7 ? '; keeper: ' + signs(one.settled) : '');
+      const text = index === 0 ? 'the beginning' : index + ' ' + playerName(one.mover) + ': ' + RbgBoard.spellStep(game, drawing, one);
       if (item.textContent !== text) item.textContent = text;
       item.className = index === at ? 'now' : index > at ? 'later' : '';
       item.onclick = () => goTo(index);
@@ -304,7 +317,7 @@ const RbgPlay = (() => {
       move = moves.length > 0 ? { pairs: moves[0] } : null;
     }
     if (made > 0) await ask(['back ' + made]);
-    prepare(legal.map(one => one.pairs), steps[0].board);
+    findClicks();
   };
 
   const make = async pairs => {
@@ -372,9 +385,18 @@ const RbgPlay = (() => {
     return best;
   };
 
+  /* One square can be reached by the key Tab. */
+  const letFocus = vertex => {
+    const { group } = drawing.cells[vertex];
+    if (reachable === group) return;
+    if (reachable) reachable.setAttribute('tabindex', '-1');
+    group.setAttribute('tabindex', '0');
+    reachable = group;
+  };
+
   const focus = vertex => {
     focused = vertex;
-    drawing.cells.forEach((cell, one) => cell.group.setAttribute('tabindex', one === vertex ? '0' : '-1'));
+    letFocus(vertex);
     drawing.cells[vertex].group.focus();
   };
 
@@ -563,15 +585,14 @@ const RbgPlay = (() => {
     game = RbgBoard.read(await (await fetch('/game')).text());
     version = game.version;
     stamp = (await stateOf()).stamp;
-    drawing = RbgBoard.draw(game);
-    get('stage').replaceChildren(drawing.svg);
+    drawing = RbgBoard.draw(game, 'button');
     get('title').textContent = game.title;
     document.title = game.title;
     get('rules').textContent = game.text;
     focused = Math.min(focused, drawing.cells.length - 1);
-    drawing.cells.forEach((cell, vertex) => {
-      cell.group.addEventListener('click', () => click(vertex));
-      cell.group.setAttribute('role', 'button');
+    drawing.svg.addEventListener('click', event => {
+      const group = event.target.closest('[data-vertex]');
+      if (group) click(Number(group.dataset.vertex));
     });
     sizeBoard();
     showSides();

@@ -3,7 +3,7 @@ ghost use Rattle.std.specs.Prelude.{◌≤◌, length, IfSome};
 
 use crate::answer::HttpStatus;
 use crate::request_fields::Fields;
-use httparse::{EMPTY_HEADER, Error, Header, Status as Parsed};
+use httparse::{EMPTY_HEADER, Error, Status as Parsed};
 
 /// The most bytes of the body of a request.
 pub(crate) const MAX_BODY: u64 = 1_048_576;
