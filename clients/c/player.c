@@ -11,7 +11,7 @@
 #include <time.h>
 #include <unistd.h>
 
-enum { QUIET = 5, MOST_PLAYERS = 1000 }; /* QUIET: milliseconds */
+enum { QUIET = 100, MOST_PLAYERS = 1000 }; /* QUIET: milliseconds */
 
 /* A place that was met. Of its moves those from `first` on were tried, in a circle. */
 typedef struct node {
@@ -112,7 +112,7 @@ int main(int argc, char **argv) {
   struct sockaddr_in to = {AF_INET, htons(argc > 1 ? atoi(argv[1]) : 0), {htonl(INADDR_LOOPBACK)}, {0}};
   double think = argc > 2 ? atof(argv[2]) : 100, turn = 1e12, began = 0;
   seed = argc > 3 ? strtoull(argv[3], NULL, 10) << 32 : 0;
-  int line = socket(AF_INET, SOCK_STREAM, 0), owes = 0; /* owes: a move was heard since the last one was said */
+  int line = socket(AF_INET, SOCK_STREAM, 0), quiet = QUIET, owes = 0; /* owes: a move was heard since the last one was said */
   if (connect(line, (struct sockaddr *)&to, sizeof to) || (argc > 4 && dprintf(line, "H%s%c", argv[4], 0) < 0))
     return perror("connect"), 2;
   FILE *in = fdopen(line, "r"), *out = fdopen(dup(line), "w");
@@ -121,14 +121,14 @@ int main(int argc, char **argv) {
   size_t size = 0, me = 0;
   rbg_state state = RBG_NO_STATE;
   for (;;) {
-    /* All that has come is heard before a move is said: after a restart the whole match comes at once. */
-    if (owes && poll(&(struct pollfd){line, POLLIN, 0}, 1, QUIET) == 0) {
+    /* After a restart the whole match comes at once: until nothing came for a while, a move may be an old one. */
+    if (owes && poll(&(struct pollfd){line, POLLIN, 0}, 1, quiet) == 0) {
       node root = {0};
       must(rbg_copy(&state, &root.state));
       look(&root);
       if (root.player == me && root.moves)
         say_move(out, &root, fmin(now() + think, began + turn / 2));
-      let_go(&root), owes = 0;
+      let_go(&root), owes = quiet = 0;
     }
     ssize_t length = getdelim(&text, &size, 0, in);
     if (length <= 0)
@@ -138,7 +138,7 @@ int main(int argc, char **argv) {
     else if (text[0] == 'G')
       must(rbg_begin((uint8_t *)text + 1, length - 2, &state)), must(rbg_scores(&state, row, MOST_PLAYERS, &players));
     else if (text[0] == 'L')
-      turn = atof(text + 1);
+      turn = atof(text + 1), quiet = fmin(QUIET, turn / 10);
     else if (text[0] == 'M')
       hear_move(&state, text + 1), began = now(), owes = 1;
     else if (text[0] == 'E')

@@ -17,7 +17,7 @@ using std::string;
 using Clock = std::chrono::steady_clock;
 using Milliseconds = std::chrono::duration<double, std::milli>;
 
-const int QUIET = 5; // milliseconds
+const int QUIET = 100; // milliseconds
 std::mt19937_64 chance;
 double highest = 1; // the highest score that was met
 
@@ -82,10 +82,10 @@ public:
   Stream(const Stream &) = delete;
   ~Stream() { close(line); }
 
-  /// Whether all that came was heard, and nothing comes for a while.
-  bool is_quiet() const {
+  /// Whether all that came was heard, and nothing comes for so many milliseconds.
+  bool is_quiet(int quiet) const {
     pollfd asked{line, POLLIN, 0};
-    return bytes.find('\0') == string::npos && poll(&asked, 1, QUIET) == 0;
+    return bytes.find('\0') == string::npos && poll(&asked, 1, quiet) == 0;
   }
 
   string hear() {
@@ -116,21 +116,21 @@ string play(Stream &stream, Milliseconds think) {
   uint32_t me = 0;
   Milliseconds turn(1e12);
   Clock::time_point began;
-  for (bool owes = false;;) { // whether a move was heard since the last one was said
-    // All that has come is heard before a move is said: after a restart the whole match comes at once.
-    if (owes && stream.is_quiet()) {
+  for (int quiet = QUIET, owes = 0;;) { // owes: a move was heard since the last one was said
+    // After a restart the whole match comes at once: until nothing came for a while, a move may be an old one.
+    if (owes && stream.is_quiet(quiet)) {
       Node root(state);
       auto time = std::min(think, turn / 2 - Milliseconds(Clock::now() - began));
       if (root.player == me && root.moves)
         stream.say("M" + rbg::text_of(choose(root, Clock::now() + std::chrono::duration_cast<Clock::duration>(time))));
-      owes = false;
+      owes = quiet = 0;
     }
     string message = stream.hear(), rest = message.substr(1);
     switch (message[0]) {
     case 'W': me = static_cast<uint32_t>(std::stoul(rest)); break;
     case 'G': state = rbg::State::begin(rest); break;
-    case 'L': turn = Milliseconds(std::stod(rest)); break;
-    case 'M': state.hear(rbg::move_of(rest)), began = Clock::now(), owes = true; break;
+    case 'L': turn = Milliseconds(std::stod(rest)), quiet = static_cast<int>(std::min<double>(QUIET, turn.count() / 10)); break;
+    case 'M': state.hear(rbg::move_of(rest)), began = Clock::now(), owes = 1; break;
     case 'E': return message;
     default:
       if (rest != "2") throw std::runtime_error("refused: " + message); // R2: it came too late to be the player's own

@@ -10,7 +10,7 @@ use std::time::{Duration, Instant};
 
 type Result<T> = std::result::Result<T, Box<dyn Error>>;
 
-const QUIET: Duration = Duration::from_millis(5);
+const QUIET: Duration = Duration::from_millis(100);
 
 /// What all places of a search share.
 struct Search {
@@ -105,11 +105,11 @@ fn text_of(pairs: &[Pair]) -> String {
 fn play(mut stream: TcpStream, think: Duration, mut search: Search) -> Result<String> {
     let (mut bytes, mut piece) = (Vec::new(), vec![0; 65536]);
     let (mut state, mut me, mut turn, mut began) = (None, 0, Duration::MAX, Instant::now());
-    let mut owes = false; // whether a move was heard since the last one was said
+    let (mut quiet, mut owes) = (QUIET, false); // owes: a move was heard since the last one was said
     loop {
         let Some(end) = bytes.iter().position(|byte| *byte == 0) else {
-            // All that has come is heard before a move is said: after a restart the whole match comes at once.
-            stream.set_read_timeout(if owes { Some(QUIET) } else { None })?;
+            // After a restart the whole match comes at once: until nothing came for a while, a move may be an old one.
+            stream.set_read_timeout(if owes { Some(quiet) } else { None })?;
             match (stream.read(&mut piece), &mut state) {
                 (Ok(0), _) => return Err("the stream has ended".into()),
                 (Ok(more), _) => bytes.extend_from_slice(&piece[..more]),
@@ -119,7 +119,7 @@ fn play(mut stream: TcpStream, think: Duration, mut search: Search) -> Result<St
                         let until = Instant::now() + think.min(turn.saturating_sub(began.elapsed()) / 2);
                         stream.write_all(text_of(&root.choose(until, &mut search)?).as_bytes())?;
                     }
-                    owes = false;
+                    (quiet, owes) = (Duration::from_millis(1), false);
                 }
                 (Err(error), _) => return Err(error.into()),
             }
@@ -129,7 +129,7 @@ fn play(mut stream: TcpStream, think: Duration, mut search: Search) -> Result<St
         match (message.split_at(1), &mut state) {
             (("W", rest), _) => me = rest.split(' ').next().unwrap_or("").parse()?,
             (("G", rest), _) => state = Some(State::begin(rest.as_bytes())?),
-            (("L", rest), _) => turn = Duration::from_millis(rest.split(' ').next().unwrap_or("").parse()?),
+            (("L", rest), _) => (turn = Duration::from_millis(rest.split(' ').next().unwrap_or("").parse()?), quiet = QUIET.min(turn / 10)).0,
             (("M", rest), Some(state)) => (state.hear(&pairs_of(rest)?)?, began = Instant::now(), owes = true).0,
             (("E", _), _) => return Ok(message),
             (("R", "2"), _) => {} // a move that came too late to be the player's own

@@ -3,8 +3,8 @@
     import random, rbg
     rbg.play(4710, lambda state, clock: random.choice(state.moves()))
 
-The match is followed move by move, the keeper's moves too, so no move is answered that was made long ago, as when a match
-goes on that was stopped.
+The match is followed move by move, the keeper's moves too. When a match goes on that was stopped, all of it comes at once:
+until nothing came for a while, a move may be an old one, and isn't answered.
 """
 
 import select
@@ -15,7 +15,7 @@ from typing import Callable, NamedTuple, Optional, Union
 from rbg.game import Game, State
 from rbg.places import Move
 
-QUIET = 0.005  # seconds in which nothing comes before a move is said
+QUIET = 0.1  # seconds in which nothing comes before the first move is said, but at most a tenth of the turn
 PATIENCE = 3.0  # seconds for which a port is tried again on which nothing listens yet
 
 
@@ -106,6 +106,7 @@ class Seat:
         self.program, self.library = program, library
         self.player, self.game = 0, None  # type: tuple[int, Optional[Game]]
         self.turn: Optional[float] = None
+        self.quiet = QUIET  # nothing has to come for so long before a move is said
         self.began = 0.0  # when the last move was heard
         self.owes = False  # whether a move was heard since the last one was said
         self.end: Optional[str] = None
@@ -120,6 +121,7 @@ class Seat:
             self.game = Game.read(text, self.program, self.library)
         elif letter == b"L":
             self.turn = int(text.split()[0]) / 1000
+            self.quiet = min(QUIET, self.turn / 10)
         elif letter == b"M" and self.game is not None:
             self.game.hear(text.decode("ascii"))
             self.began, self.owes = time.monotonic(), True
@@ -132,7 +134,7 @@ class Seat:
         """The move that is owed, if one is: the place that was reached is the player's own, and it has said nothing there."""
         if not self.owes or self.game is None:
             return None
-        self.owes = False
+        self.owes, self.quiet = False, 0.0
         state = self.game.state()
         if state.is_over or state.player != self.player:
             return None
@@ -164,7 +166,7 @@ def play(
             if message is None:
                 break
             seat.hear(message)
-            if seat.end is None and not stream.has_more(QUIET):
+            if seat.end is None and not stream.has_more(seat.quiet):
                 move = seat.move(choose)
                 if move is not None:
                     stream.say("M" + move)

@@ -7,3 +7,5 @@ mod Values
 mod Filled
 mod ByChance
 mod Unmade
+mod Listed
+mod Shaped

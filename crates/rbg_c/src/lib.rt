@@ -3,9 +3,11 @@
 
 mod asking;
 mod chance;
+mod faults;
 mod filling;
 mod handle;
 mod keys;
+mod listing;
 mod loose;
 mod naming;
 mod opening;
@@ -13,6 +15,7 @@ mod pairs;
 mod playing;
 mod playouts;
 mod results;
+mod shape;
 mod state;
 mod stepping;
 

@@ -91,6 +91,13 @@ fn shared_place(alloc: Global, place: Place) -> Result<Arc<Place>, Memory>
     }
 }
 
+/// Hands the list of the moves that were found on, so that later questions have its room.
+fn hand_on(found: &mut Option<MoveList>, workspace: &mut Workspace) {
+    if let Some(moves) = replace(found, None) {
+        workspace.keep_moves(moves);
+    }
+}
+
 impl State {
     /// The state to which the keeper's first moves lead.
     pub fn open(alloc: Global, game: Game) -> Result<State, Refusal>
@@ -304,6 +311,7 @@ impl State {
         )?;
         self.before.reserve(1)?;
         self.before.push_reserved(replace(&mut self.place, to));
+        hand_on(&mut self.found, &mut self.workspace);
         self.found = None;
         Ok(())
     }
@@ -317,6 +325,7 @@ impl State {
         let to = lead(self.game.deref(), &self.place, pairs, &mut self.workspace)?;
         self.before.reserve(1)?;
         self.before.push_reserved(replace(&mut self.place, to));
+        hand_on(&mut self.found, &mut self.workspace);
         self.found = None;
         Ok(())
     }
@@ -331,6 +340,7 @@ impl State {
         let to = follow(self.game.deref(), &self.place, pairs, &mut self.workspace)?;
         self.before.clear();
         self.workspace.keep(replace(&mut self.place, to));
+        hand_on(&mut self.found, &mut self.workspace);
         self.found = None;
         Ok(())
     }
@@ -344,6 +354,7 @@ impl State {
         match self.before.pop() {
             Some(place) => {
                 self.workspace.keep(replace(&mut self.place, place));
+                hand_on(&mut self.found, &mut self.workspace);
                 self.found = None;
                 true
             }
