@@ -137,7 +137,7 @@ fn compare_game<S: Steps>(asked: &Asked<'_, S>, choice: u64, tally: &mut Tally) 
     compare_three(asked, &first, choice, tally)
 }
 
-/// Compares a game by an automaton, where seeds say so by sets of vertices.
+/// Compares a game by an automaton, where seeds say so by leaps.
 fn compare_by<'a, S: Steps>(
     alloc: Global,
     played: &'a PlayedGame,

@@ -16,7 +16,7 @@ pub(crate) struct Asked<'a, S: Steps> {
     pub alloc: Global,
     pub game: &'a Game,
     pub steps: &'a S,
-    /// The leaps of the game, where the questions go by sets of vertices.
+    /// The leaps of the game, where the questions go by them.
     pub paths: Option<&'a Paths>,
     /// The game, made ready for play.
     pub played: &'a PlayedGame,

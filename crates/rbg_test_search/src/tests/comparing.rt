@@ -23,7 +23,7 @@ const BUDGET: Budget = Budget {
     modifiers: 30,
 };
 
-/// Budgets within which searches by sets and by pairs are compared: the last ones are above the limits of many questions.
+/// Budgets within which searches by leaps and step by step are compared: the last ones are above the limits of many questions.
 const BUDGETS: [Budget; 3] = [
     BUDGET,
     Budget {
@@ -168,10 +168,10 @@ fn reach_alike(one: &Result<FlatPart, Over>, other: &Result<FlatPart, Over>) -> 
     }
 }
 
-/// Compares what is reached in a pattern and whether it holds, within a budget, by sets and by pairs.
+/// Compares what is reached in a pattern and whether it holds, within a budget, by leaps and step by step.
 fn compare_order<S: Steps>(
     asked: &Asked<'_, S>,
-    by_pairs: &Asked<'_, S>,
+    stepwise: &Asked<'_, S>,
     place: &Place,
     position: Position,
     budget: Budget,
@@ -179,24 +179,24 @@ fn compare_order<S: Steps>(
 ) -> Result<Result<bool, Over>, Odd>
     requires asked { IsSearchedAt S.of_rules asked.now.steps.now asked.now.game.now
         (λ told. ArePathsOf asked.now.game.now told.now) asked.now.paths place.now }
-    requires by_pairs { IsSearchedAt S.of_rules by_pairs.now.steps.now by_pairs.now.game.now
-        (λ told. ArePathsOf by_pairs.now.game.now told.now) by_pairs.now.paths place.now }
+    requires stepwise { IsSearchedAt S.of_rules stepwise.now.steps.now stepwise.now.game.now
+        (λ told. ArePathsOf stepwise.now.game.now told.now) stepwise.now.paths place.now }
     requires there { IsPatternAt asked.now.game.now.rules position }
-    requires there_too { IsPatternAt by_pairs.now.game.now.rules position }
+    requires there_too { IsPatternAt stepwise.now.game.now.rules position }
 {
     let origin = in_pattern(asked.game, position);
     let reached = reach(asked, place, origin, budget, buffers)?;
-    let origin = in_pattern(by_pairs.game, position);
-    let again = reach(by_pairs, place, origin, budget, buffers)?;
+    let origin = in_pattern(stepwise.game, position);
+    let again = reach(stepwise, place, origin, budget, buffers)?;
     expect(reach_alike(&reached, &again), Odd::Order)?;
     let valid = pattern(asked, place, position, budget, buffers)?;
-    let again = pattern(by_pairs, place, position, budget, buffers)?;
+    let again = pattern(stepwise, place, position, budget, buffers)?;
     expect(valid == again, Odd::Order)?;
     Ok(valid)
 }
 
-/// Compares searches by sets in a pattern with those by pairs. A search by pairs takes what it meets in the order of a
-/// queue, one by sets takes what it met last.
+/// Compares searches by leaps in a pattern with those that go step by step. These meet shifts too, so both meet
+/// what they ask in different orders.
 fn compare_orders<S: Steps>(
     asked: &Asked<'_, S>,
     place: &Place,
@@ -211,7 +211,7 @@ fn compare_orders<S: Steps>(
     if asked.paths.is_none() {
         return Ok(());
     }
-    let by_pairs = Asked {
+    let stepwise = Asked {
         alloc: asked.alloc,
         game: asked.game,
         steps: asked.steps,
@@ -220,7 +220,7 @@ fn compare_orders<S: Steps>(
         rules: asked.rules,
     };
     for budget in &BUDGETS {
-        let valid = compare_order(asked, &by_pairs, place, position, *budget, buffers)?;
+        let valid = compare_order(asked, &stepwise, place, position, *budget, buffers)?;
         if let Err(over) = valid {
             tally.count_over(over);
         }

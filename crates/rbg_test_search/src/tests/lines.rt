@@ -34,7 +34,7 @@ fn knows<S: Steps>(search: &Search<'_, S>, position: Position, alone: Position) 
     }
 }
 
-/// Whether a search by sets knows it after each of the positions.
+/// Whether a search with paths knows it after each of the positions.
 fn knows_lines(alloc: Global, game: &Game) -> Result<bool, Fail> {
     let steps = compact(alloc, game)?;
     let paths = Paths::new(alloc, game, &steps)?;

@@ -18,7 +18,7 @@ pub(crate) enum Odd {
     /// An answer of that call isn't the slow one.
     Reach,
     Pattern,
-    /// A search by sets doesn't answer or give up as one by pairs does.
+    /// A search by leaps doesn't answer or give up as one that goes step by step does.
     Order,
     Try,
     Find,
@@ -64,7 +64,7 @@ pub(crate) struct Tally {
     /// Patterns that are valid or not.
     pub valid: u32,
     pub invalid: u32,
-    /// What was asked by sets and by pairs, and was too deep or too wide for both.
+    /// What was asked by leaps and step by step, and was too deep or too wide for both.
     pub deep: u32,
     pub wide: u32,
 }

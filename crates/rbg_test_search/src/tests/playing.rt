@@ -33,7 +33,7 @@ fn is_same(game: &Game, state: &SemiState, world: &World) -> bool
     same
 }
 
-/// What trying a move by sets answers.
+/// What trying a move by leaps answers.
 fn try_played(played: &PlayedGame, place: &Place, pairs: &Move) -> Result<Option<Place>, Over>
     requires { IsPlaceOf played.now place.now }
     ensures { IfOk result (λ after. IfSome after (IsPlaceOf played.now)) }
@@ -237,7 +237,7 @@ fn list<S: Steps>(asked: &Asked<'_, S>, place: &Place, max: usize) -> Result<Lis
     }
 }
 
-/// A move that is found by sets.
+/// A move that is found by leaps.
 fn find_played(played: &PlayedGame, place: &Place) -> Result<Option<Move>, Over>
     requires { IsPlaceOf played.now place.now }
 {
