@@ -1,13 +1,13 @@
 use Rattle.rbg_base.proofs.Common.{◌≡◌, length, ap, ◌∙◌, sym, with_items_is}
 use Rattle.rbg_hall.specs.Undoing.{bytes_in, cut_back, undone}
 use Rattle.rbg_hall.proofs.Telling.{undone-more}
-use Rattle.rbg_hall.proofs.queues.HallOut.take_back.Goals as goal
+use Rattle.rbg_hall.proofs.queues.Queues.roll_back.Goals as goal
 
 pub loop-mark-preserved : goal.loop-mark-preserved
 loop-mark-preserved c =
     let lent = c.deref_mut.ensures in
     let same : length c.cut.new.queues ≡ length c.deref_mut.result.now = c.cut.auto.queues in
-    let had = c.loop-mark.self-inside.queues in
+    let had = c.loop-mark.self-inside.bytes in
     let cut : bytes_in c.cut.new.queues ≡ cut_back (bytes_in had.items) c.in-Some.mark = rw lent.value at c.cut.ensures in
     rw (with_items_is had c.cut.new.queues (same ∙ lent.len))
     (record {

@@ -6,19 +6,19 @@ use std::alloc::{AllocError, Global};
 
 /// A log in memory. It fails, and takes nothing, where it would hold more than it can.
 #[derive(Drop)]
-pub struct MemoryLog {
+pub struct BoundedLog {
     bytes: Vec<u8>,
     /// How many bytes it can hold.
     room: usize,
 }
 
-impl MemoryLog {
+impl BoundedLog {
     /// An empty log that can hold so many bytes.
-    pub fn new(alloc: Global, room: usize) -> MemoryLog
+    pub fn new(alloc: Global, room: usize) -> BoundedLog
         ensures room { result.room ≡ room }
-        ensures empty { ⟦<MemoryLog as Log>⟧.told result [] }
+        ensures empty { ⟦<BoundedLog as Log>⟧.told result [] }
     {
-        MemoryLog {
+        BoundedLog {
             bytes: Vec::new(alloc),
             room,
         }
@@ -26,13 +26,13 @@ impl MemoryLog {
 
     /// The bytes that it holds.
     pub fn bytes(&self) -> &[u8]
-        ensures { ⟦<MemoryLog as Log>⟧.told self.now result.now }
+        ensures { ⟦<BoundedLog as Log>⟧.told self.now result.now }
     {
         self.bytes.as_slice()
     }
 }
 
-impl Log for MemoryLog {
+impl Log for BoundedLog {
     ghost told = { λ log held. log.bytes.items ≡ held };
 
     fn append(&mut self, bytes: &[u8]) -> Result<(), LogFailure> {
