@@ -1,20 +1,14 @@
 -- An item that arrives stands for the piece that completes it alone.
-use Rattle.std.proofs.Common.{◌≡◌, ℕ, ◌-◌, Bool, true, false, List, [], ◌∷◌, length, map, set, refl, sym, ap, ◌∙◌, if◌then◌else◌}
-use Rattle.std.proofs.lemmas.List.{length-map, set-get_or}
-use Rattle.rbg_wire.specs.Streams.{Item, Rest, Stream, incomplete, Cut, cut}
+use Rattle.std.proofs.Common.{◌≡◌, ℕ, ◌-◌, Bool, true, false, List, [], ◌∷◌, set, refl, sym, ap, ◌∙◌, if◌then◌else◌}
+use Rattle.std.proofs.lemmas.List.{set-get_or}
+use Rattle.rbg_wire.specs.Streams.{Item, Rest, incomplete, Cut, cut}
 use Rattle.rbg_wire.specs.Whole.{IsCutAlone, whole_item}
 use Rattle.rbg_match.specs.Arrivals.{IsBetween}
-use Rattle.rbg_match.specs.internal.Items.{is_there, item_inputs}
-use Rattle.rbg_match.proofs.Common.{message_limit, sent, tick, piece, has_seat, cut_of, inputs_in, rests_after, rests_of}
+use Rattle.rbg_match.proofs.Common.{message_limit, piece, has_seat, cut_of, rests_after}
 
 -- what such a piece is cut into
 cut_alone : (rests : List Rest) (seat : ℕ) (item : Item) → IsCutAlone message_limit item → IsBetween rests seat → cut_of rests seat (whole_item message_limit item) ≡ record { items = item ∷ []; rest = incomplete [] }
 cut_alone rests seat item alone between = ap (λ rest. cut message_limit rest (whole_item message_limit item)) between ∙ alone
-
-pub inputs_of_item : (inboxes : List Stream) (seat at : ℕ) (item : Item) → IsCutAlone message_limit item → IsBetween (rests_of inboxes) seat → inputs_in (rests_of inboxes) (piece seat at (whole_item message_limit item)) ≡ item_inputs (length inboxes) seat item
-inputs_of_item inboxes seat at item alone between =
-    ap (λ (c : Cut). tick ∷ (if has_seat (rests_of inboxes) seat then map (sent seat) c.items else [])) (cut_alone (rests_of inboxes) seat item alone between)
-    ∙ ap (λ seats. item_inputs seats seat item) (length-map inboxes (λ (inbox : Stream). inbox.rest))
 
 stays_so : (test : Bool) (rests changed : List Rest) → changed ≡ rests → (if test then changed else rests) ≡ rests
 stays_so true rests changed same = same
@@ -25,7 +19,3 @@ pub rests_of_item : (rests : List Rest) (seat at : ℕ) (item : Item) → IsCutA
 rests_of_item rests seat at item alone between =
     ap (λ (c : Cut). if has_seat rests seat then set rests (seat - 1) c.rest else rests) (cut_alone rests seat item alone between)
     ∙ stays_so (has_seat rests seat) rests (set rests (seat - 1) (incomplete [])) (ap (λ rest. set rests (seat - 1) rest) (sym between) ∙ set-get_or rests (seat - 1) (incomplete []))
-
--- there is a seat in the match of these inboxes
-pub there_test : (inboxes : List Stream) (seat : ℕ) (test : Bool) → has_seat (rests_of inboxes) seat ≡ test → is_there (length inboxes) seat ≡ test
-there_test inboxes seat test is = ap (λ seats. is_there seats seat) (sym (length-map inboxes (λ (inbox : Stream). inbox.rest))) ∙ is
