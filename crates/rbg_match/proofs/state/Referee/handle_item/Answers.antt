@@ -1,5 +1,5 @@
 -- The moment is handled, and then the item if there is the seat.
-use Rattle.std.proofs.Common.{◌≡◌, Bool, true, false, List, [], ◌∷◌, sym, ap, ◌∙◌, if◌then◌else◌}
+use Rattle.std.proofs.Common.{◌≡◌, Bool, true, false, [], ◌∷◌, sym, ap, ◌∙◌, if◌then◌else◌}
 use Rattle.rbg_wire.specs.Inboxes.{item_of}
 use Rattle.rbg_match.specs.internal.Items.{is_there}
 use Rattle.rbg_match.proofs.Common.{sent, tick}
