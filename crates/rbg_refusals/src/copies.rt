@@ -1,10 +1,10 @@
 //! Copies of what is queued, one for each queue. A run compares them with what is queued later.
 
-use crate::stop::Stop;
+use crate::run_error::RunError;
 use std::alloc::Global;
 
 /// Adds a copy of these bytes.
-pub fn add_copy(alloc: Global, bytes: &[u8], copies: &mut Vec<Vec<u8>>) -> Result<(), Stop> {
+pub fn add_copy(alloc: Global, bytes: &[u8], copies: &mut Vec<Vec<u8>>) -> Result<(), RunError> {
     let copy = Vec::from_slice(alloc, bytes)?;
     copies.push(copy)?;
     Ok(())

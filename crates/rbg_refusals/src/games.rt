@@ -1,6 +1,6 @@
 //! The games of the runs.
 
-use crate::stop::Stop;
+use crate::run_error::RunError;
 use rbg_game::load;
 use rbg_match::Config;
 use rbg_moves::PlayedGame;
@@ -83,7 +83,7 @@ pub const SQUARES: &[u8] = b"#players = white(100), black(100)
 ";
 
 /// A game that was loaded, with the automaton of its rules.
-pub fn played(alloc: Global, text: &[u8]) -> Result<PlayedGame, Stop> {
+pub fn played(alloc: Global, text: &[u8]) -> Result<PlayedGame, RunError> {
     let game = load(alloc, text)?;
     Ok(PlayedGame::new(alloc, game)?)
 }

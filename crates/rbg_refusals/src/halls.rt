@@ -7,7 +7,7 @@ use crate::copies::{add_copy, is_copy};
 use crate::games::{BLACK, CONFIG, GAME, WHITE};
 use crate::lines::{Plan, ROOM as LINE_ROOM, tell_served, two_lines};
 use crate::printing::Facts;
-use crate::stop::Stop;
+use crate::run_error::RunError;
 use crate::two_tables;
 use rbg_game::load;
 use rbg_hall::{Hall, HallError, HallEvent, HallOut, Table};
@@ -64,7 +64,7 @@ const LINES: u64 = 3;
 const ROOM: usize = 1000;
 
 /// Makes the run of a name, if it is one of these; else the next module does.
-pub fn run<W: Write>(alloc: Global, name: &str, facts: &mut Facts<W>) -> Result<(), Stop> {
+pub fn run<W: Write>(alloc: Global, name: &str, facts: &mut Facts<W>) -> Result<(), RunError> {
     match name {
         "hall" => make(alloc, &[], facts),
         "hall-begin" => make(alloc, &EVENTS[..3], facts),
@@ -75,7 +75,7 @@ pub fn run<W: Write>(alloc: Global, name: &str, facts: &mut Facts<W>) -> Result<
 }
 
 /// A table for a match of the small game.
-pub fn table(alloc: Global) -> Result<Table, Stop>
+pub fn table(alloc: Global) -> Result<Table, RunError>
     ensures { IfOk result (λ table. Loads table.text.items table.game) }
 {
     let game = load(alloc, GAME)?;
@@ -88,7 +88,7 @@ pub fn table(alloc: Global) -> Result<Table, Stop>
 }
 
 /// The one table of a hall.
-fn tables(alloc: Global) -> Result<Vec<Table>, Stop>
+fn tables(alloc: Global) -> Result<Vec<Table>, RunError>
     ensures { IfOk result (λ tables. AreLoaded tables.items) }
 {
     let mut tables = Vec::with_capacity(alloc, 1)?;
@@ -101,7 +101,7 @@ fn make<W: Write>(
     alloc: Global,
     events: &[HallEvent<'_>],
     facts: &mut Facts<W>,
-) -> Result<(), Stop> {
+) -> Result<(), RunError> {
     let tables = tables(alloc)?;
     match Hall::new(alloc, tables) {
         Ok((mut hall, mut out)) => hear(alloc, &mut hall, &mut out, events, facts),
@@ -114,9 +114,9 @@ fn tell_error<W: Write>(
     error: HallError,
     is_asked: bool,
     facts: &mut Facts<W>,
-) -> Result<(), Stop> {
+) -> Result<(), RunError> {
     if !is_asked {
-        return Err(Stop::from(error));
+        return Err(RunError::from(error));
     }
     facts.refusal(matches!(error, HallError::Memory), &error);
     Ok(())
@@ -131,7 +131,7 @@ fn tell_queues<W: Write>(out: &HallOut, facts: &mut Facts<W>) {
 }
 
 /// Copies the bytes that are queued for each line.
-fn copy_queues(alloc: Global, out: &HallOut, copies: &mut Vec<Vec<u8>>) -> Result<(), Stop> {
+fn copy_queues(alloc: Global, out: &HallOut, copies: &mut Vec<Vec<u8>>) -> Result<(), RunError> {
     for line in 0..out.lines() {
         add_copy(alloc, out.bytes(line as u64), copies)?;
     }
@@ -154,7 +154,7 @@ fn hear<W: Write>(
     out: &mut HallOut,
     events: &[HallEvent<'_>],
     facts: &mut Facts<W>,
-) -> Result<(), Stop> {
+) -> Result<(), RunError> {
     let Some((last, before)) = events.split_last() else {
         tell_queues(out, facts);
         return Ok(());
@@ -169,7 +169,7 @@ fn step_all(
     hall: &mut Hall<MemoryLog>,
     out: &mut HallOut,
     events: &[HallEvent<'_>],
-) -> Result<(), Stop> {
+) -> Result<(), RunError> {
     for event in events {
         hall.step(*event, out)?;
     }
@@ -182,7 +182,7 @@ fn step_last<W: Write>(
     out: &mut HallOut,
     event: HallEvent<'_>,
     facts: &mut Facts<W>,
-) -> Result<(), Stop> {
+) -> Result<(), RunError> {
     let mut queued = Vec::new(alloc);
     copy_queues(alloc, out, &mut queued)?;
     tell_step(hall, out, queued.as_slice(), event, facts);
@@ -217,7 +217,7 @@ fn tell_log<W: Write>(log: Option<&MemoryLog>, facts: &mut Facts<W>) {
 }
 
 /// Makes a hall of one table, and serves it over two lines.
-fn make_and_run<W: Write>(alloc: Global, facts: &mut Facts<W>) -> Result<(), Stop> {
+fn make_and_run<W: Write>(alloc: Global, facts: &mut Facts<W>) -> Result<(), RunError> {
     let tables = tables(alloc)?;
     let (mut hall, mut out) = Hall::new(alloc, tables)?;
     run_hall(alloc, &mut hall, &mut out, facts)
@@ -228,7 +228,7 @@ fn run_hall<W: Write>(
     hall: &mut Hall<MemoryLog>,
     out: &mut HallOut,
     facts: &mut Facts<W>,
-) -> Result<(), Stop> {
+) -> Result<(), RunError> {
     let mut lines = two_lines(alloc, &PLAYERS)?;
     let mut clock = ListClock::new(Vec::new(alloc));
     let served = hall.run(&mut lines, out, &mut clock, ROUNDS);

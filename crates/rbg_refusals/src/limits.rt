@@ -2,7 +2,7 @@
 
 use crate::moves;
 use crate::printing::Facts;
-use crate::stop::Stop;
+use crate::run_error::RunError;
 use crate::texts::tell_expand;
 use std::alloc::Global;
 use std::io::Write;
@@ -23,7 +23,7 @@ const LEVELS: &[u8] =
 ";
 
 /// Makes the run of a name, if it is one of these; else the next module does.
-pub fn run<W: Write>(alloc: Global, name: &str, facts: &mut Facts<W>) -> Result<(), Stop> {
+pub fn run<W: Write>(alloc: Global, name: &str, facts: &mut Facts<W>) -> Result<(), RunError> {
     match name {
         // Rules that need 64 levels of macros, and 65.
         "expand-deepest" => tell_limit(alloc, b"#rules = m2", facts),
@@ -39,7 +39,7 @@ pub fn run<W: Write>(alloc: Global, name: &str, facts: &mut Facts<W>) -> Result<
 }
 
 /// Expands the sections of a text at a limit, and prints them.
-fn tell_limit<W: Write>(alloc: Global, rules: &[u8], facts: &mut Facts<W>) -> Result<(), Stop> {
+fn tell_limit<W: Write>(alloc: Global, rules: &[u8], facts: &mut Facts<W>) -> Result<(), RunError> {
     let mut text = Vec::from_slice(alloc, LEVELS)?;
     text.extend_from_slice(rules)?;
     tell_expand(alloc, text.as_slice(), facts)

@@ -1,7 +1,7 @@
 //! Lines in memory, two to each run that serves something over them.
 
 use crate::printing::Facts;
-use crate::stop::Stop;
+use crate::run_error::RunError;
 use rbg_serving::{Give, MemoryLine, ServeError, Served, Take};
 use std::alloc::Global;
 use std::io::Write;
@@ -21,7 +21,7 @@ pub struct Plan {
 }
 
 /// What a line gives at a poll.
-fn give(alloc: Global, bytes: &[u8]) -> Result<Give, Stop> {
+fn give(alloc: Global, bytes: &[u8]) -> Result<Give, RunError> {
     if bytes.is_empty() {
         return Ok(Give::Nothing);
     }
@@ -29,7 +29,7 @@ fn give(alloc: Global, bytes: &[u8]) -> Result<Give, Stop> {
 }
 
 /// A line that does what is planned.
-fn line(alloc: Global, plan: &Plan) -> Result<MemoryLine, Stop> {
+fn line(alloc: Global, plan: &Plan) -> Result<MemoryLine, RunError> {
     let mut gives = Vec::new(alloc);
     for bytes in plan.gives {
         gives.push(give(alloc, bytes)?)?;
@@ -39,7 +39,7 @@ fn line(alloc: Global, plan: &Plan) -> Result<MemoryLine, Stop> {
 }
 
 /// Two lines.
-pub fn two_lines(alloc: Global, plans: &[Plan; 2]) -> Result<[MemoryLine; 2], Stop> {
+pub fn two_lines(alloc: Global, plans: &[Plan; 2]) -> Result<[MemoryLine; 2], RunError> {
     let first = line(alloc, &plans[0])?;
     Ok([first, line(alloc, &plans[1])?])
 }

@@ -21,14 +21,14 @@ mod opening;
 mod players;
 mod printing;
 mod records;
+mod run_error;
 mod searches;
 mod serving;
-mod stop;
 mod texts;
 mod two_tables;
 
 use crate::printing::Facts;
-use crate::stop::Stop;
+use crate::run_error::RunError;
 use arrayvec::ArrayVec;
 use std::alloc::Global;
 use std::io::{self, Read, Write};
@@ -47,9 +47,9 @@ fn tell_run<W: Write>(alloc: Global, name: &[u8], facts: &mut Facts<W>) {
     facts.bytes(b"\n");
     match texts::run(alloc, str::from_utf8(name).unwrap_or(""), facts) {
         Ok(()) => {}
-        Err(Stop::Setup) => facts.line("setup memory"),
-        Err(Stop::Wrong) => facts.line("setup wrong"),
-        Err(Stop::Unknown) => facts.line("no such run"),
+        Err(RunError::Setup) => facts.line("setup memory"),
+        Err(RunError::Wrong) => facts.line("setup wrong"),
+        Err(RunError::Unknown) => facts.line("no such run"),
     }
 }
 

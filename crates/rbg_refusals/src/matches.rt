@@ -6,8 +6,8 @@ use crate::copies::{add_copy, is_copy};
 use crate::games::{BLACK, CONFIG, GAME, WHITE};
 use crate::opening::new_match;
 use crate::printing::Facts;
+use crate::run_error::RunError;
 use crate::serving;
-use crate::stop::Stop;
 use rbg_base::Memory;
 use rbg_game::load;
 use rbg_match::{Config, Event, Match, MatchError, Outbox};
@@ -53,7 +53,7 @@ enum Task {
 }
 
 /// Makes the run of a name, if it is one of these; else the next module does.
-pub fn run<W: Write>(alloc: Global, name: &str, facts: &mut Facts<W>) -> Result<(), Stop> {
+pub fn run<W: Write>(alloc: Global, name: &str, facts: &mut Facts<W>) -> Result<(), RunError> {
     match name {
         "open" => open(alloc, facts),
         "step" => do_task(alloc, CONFIG, 0, Task::Step, facts),
@@ -81,7 +81,7 @@ fn tell_outbox<W: Write>(outbox: &Outbox, facts: &mut Facts<W>) {
 }
 
 /// Makes a match of the small game.
-fn open<W: Write>(alloc: Global, facts: &mut Facts<W>) -> Result<(), Stop> {
+fn open<W: Write>(alloc: Global, facts: &mut Facts<W>) -> Result<(), RunError> {
     let game = load(alloc, GAME)?;
     tell_opened(&Match::new(alloc, game, GAME, CONFIG, 0), facts);
     Ok(())
@@ -101,7 +101,7 @@ fn do_task<W: Write>(
     now: u64,
     task: Task,
     facts: &mut Facts<W>,
-) -> Result<(), Stop> {
+) -> Result<(), RunError> {
     let (mut opened, mut outbox) = new_match(alloc, GAME, config, now)?;
     do_in(alloc, task, &mut opened, &mut outbox, facts)
 }
@@ -112,7 +112,7 @@ fn do_in<W: Write>(
     opened: &mut Match,
     outbox: &mut Outbox,
     facts: &mut Facts<W>,
-) -> Result<(), Stop>
+) -> Result<(), RunError>
     requires { length outbox.old ≡ seats_of opened.old.game }
 {
     match task {
@@ -124,7 +124,7 @@ fn do_in<W: Write>(
 }
 
 /// Copies the bytes that are queued for each seat.
-fn copy_queues(alloc: Global, outbox: &Outbox, copies: &mut Vec<Vec<u8>>) -> Result<(), Stop> {
+fn copy_queues(alloc: Global, outbox: &Outbox, copies: &mut Vec<Vec<u8>>) -> Result<(), RunError> {
     for seat in 1..=outbox.seats() {
         add_copy(alloc, outbox.bytes(seat), copies)?;
     }
@@ -146,7 +146,7 @@ fn step<W: Write>(
     opened: &mut Match,
     outbox: &mut Outbox,
     facts: &mut Facts<W>,
-) -> Result<(), Stop>
+) -> Result<(), RunError>
     requires { length outbox.old ≡ seats_of opened.old.game }
 {
     let mut before = Vec::new(alloc);
@@ -181,7 +181,7 @@ fn write_played<W: Write>(
     played: &mut Match,
     outbox: &mut Outbox,
     facts: &mut Facts<W>,
-) -> Result<(), Stop>
+) -> Result<(), RunError>
     requires { length outbox.old ≡ seats_of played.old.game }
 {
     play_both(played, outbox)?;
@@ -211,7 +211,7 @@ fn tell_written<W: Write>(written: &Result<Vec<u8>, Memory>, facts: &mut Facts<W
 }
 
 /// Referees the small game.
-fn referee_all<W: Write>(alloc: Global, facts: &mut Facts<W>) -> Result<(), Stop> {
+fn referee_all<W: Write>(alloc: Global, facts: &mut Facts<W>) -> Result<(), RunError> {
     tell_refereed(&referee(alloc, GAME, CONFIG, 0, &EVENTS), facts);
     Ok(())
 }
@@ -234,7 +234,7 @@ fn tell_due<W: Write>(
     opened: &mut Match,
     outbox: &mut Outbox,
     facts: &mut Facts<W>,
-) -> Result<(), Stop>
+) -> Result<(), RunError>
     requires { length outbox.old ≡ seats_of opened.old.game }
 {
     let before = opened.due();

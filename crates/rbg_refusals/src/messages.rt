@@ -2,7 +2,7 @@
 
 use crate::matches;
 use crate::printing::{Facts, KEPT};
-use crate::stop::Stop;
+use crate::run_error::RunError;
 use rbg_wire::{Inbox, Took, read_message, write_message};
 use std::alloc::Global;
 use std::io::Write;
@@ -11,7 +11,7 @@ use std::io::Write;
 const PIECE: &[u8] = b" 3 0 4 0 5\0M1 8 1 9\0E0 100 0\0";
 
 /// Makes the run of a name, if it is one of these; else the next module does.
-pub fn run<W: Write>(alloc: Global, name: &str, facts: &mut Facts<W>) -> Result<(), Stop> {
+pub fn run<W: Write>(alloc: Global, name: &str, facts: &mut Facts<W>) -> Result<(), RunError> {
     match name {
         "feed" => feed(alloc, facts),
         "write-message" => write(alloc, facts),
@@ -31,12 +31,12 @@ fn tell_taken<W: Write>(inbox: &mut Inbox, facts: &mut Facts<W>) {
 }
 
 /// Feeds an inbox that has a message and a part of the next one, and takes the messages.
-fn feed<W: Write>(alloc: Global, facts: &mut Facts<W>) -> Result<(), Stop> {
+fn feed<W: Write>(alloc: Global, facts: &mut Facts<W>) -> Result<(), RunError> {
     let mut inbox = Inbox::new(alloc, 4096);
     feed_pieces(&mut inbox, facts)
 }
 
-fn feed_pieces<W: Write>(inbox: &mut Inbox, facts: &mut Facts<W>) -> Result<(), Stop> {
+fn feed_pieces<W: Write>(inbox: &mut Inbox, facts: &mut Facts<W>) -> Result<(), RunError> {
     inbox.feed(b"M0 1\0M0")?;
     if inbox.feed(PIECE).is_ok() {
         tell_taken(inbox, facts);
@@ -53,7 +53,7 @@ fn has_one(inbox: &mut Inbox) -> bool {
 }
 
 /// Writes a message after bytes that are there.
-fn write<W: Write>(alloc: Global, facts: &mut Facts<W>) -> Result<(), Stop> {
+fn write<W: Write>(alloc: Global, facts: &mut Facts<W>) -> Result<(), RunError> {
     let mut bytes = Vec::from_slice(alloc, KEPT)?;
     let message = read_message(b"E0 1 22 333 4444 55555 666666 7777777 88888888")?;
     let went_well = write_message(&message, &mut bytes).is_ok();

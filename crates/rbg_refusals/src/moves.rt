@@ -4,8 +4,8 @@ ghost use Rattle.rbg_rules.specs.Meaning.{IsPlaceOf};
 
 use crate::games::{DEEPEST, PATTERN, STAR, played};
 use crate::printing::Facts;
+use crate::run_error::RunError;
 use crate::searches::{self, tell_over, tell_pair};
-use crate::stop::Stop;
 use rbg_base::{Move, Pair};
 use rbg_moves::{Listed, Place, PlayedGame};
 use std::alloc::Global;
@@ -62,7 +62,7 @@ enum Asked<'a> {
 }
 
 /// Makes the run of a name, if it is one of these; else the next module does.
-pub fn run<W: Write>(alloc: Global, name: &str, facts: &mut Facts<W>) -> Result<(), Stop> {
+pub fn run<W: Write>(alloc: Global, name: &str, facts: &mut Facts<W>) -> Result<(), RunError> {
     match name {
         "find-star" => ask_moves(alloc, STAR, Asked::Find, facts),
         "try-star" => ask_moves(alloc, STAR, Asked::Try(&STAR_MOVE), facts),
@@ -87,13 +87,13 @@ fn tell_pairs<W: Write>(pairs: &[Pair], facts: &mut Facts<W>) {
 }
 
 /// The place after the keeper's switch to white.
-fn white_to_move(game: &PlayedGame) -> Result<Place, Stop>
+fn white_to_move(game: &PlayedGame) -> Result<Place, RunError>
     ensures { IfOk result (IsPlaceOf game.now) }
 {
     let start = game.start()?;
     let tried = game.try_move(&start, &Move::new(SWITCH), &mut game.workspace());
     let to = tried?;
-    let place = to.ok_or(Stop::Wrong)?;
+    let place = to.ok_or(RunError::Wrong)?;
     Ok(place)
 }
 
@@ -103,12 +103,16 @@ fn ask_moves<W: Write>(
     text: &[u8],
     asked: Asked<'_>,
     facts: &mut Facts<W>,
-) -> Result<(), Stop> {
+) -> Result<(), RunError> {
     let game = played(alloc, text)?;
     ask_in(&game, asked, facts)
 }
 
-fn ask_in<W: Write>(game: &PlayedGame, asked: Asked<'_>, facts: &mut Facts<W>) -> Result<(), Stop> {
+fn ask_in<W: Write>(
+    game: &PlayedGame,
+    asked: Asked<'_>,
+    facts: &mut Facts<W>,
+) -> Result<(), RunError> {
     let mut place = white_to_move(game)?;
     ask_at(game, &mut place, asked, facts)
 }
@@ -118,7 +122,7 @@ fn ask_at<W: Write>(
     place: &mut Place,
     asked: Asked<'_>,
     facts: &mut Facts<W>,
-) -> Result<(), Stop>
+) -> Result<(), RunError>
     requires { IsPlaceOf game.now place.old }
 {
     match asked {
@@ -133,7 +137,7 @@ fn tell_found<W: Write>(
     game: &PlayedGame,
     place: &mut Place,
     facts: &mut Facts<W>,
-) -> Result<(), Stop>
+) -> Result<(), RunError>
     requires { IsPlaceOf game.now place.old }
 {
     let found = game.find_move(place, &mut game.workspace());
@@ -150,11 +154,11 @@ fn tell_tried<W: Write>(
     place: &Place,
     pairs: &[Pair],
     facts: &mut Facts<W>,
-) -> Result<(), Stop>
+) -> Result<(), RunError>
     requires { IsPlaceOf game.now place.now }
 {
     let Ok(pairs) = Move::try_from(pairs) else {
-        return Err(Stop::Wrong);
+        return Err(RunError::Wrong);
     };
     let tried = game.try_move(place, &pairs, &mut game.workspace());
     match tried {
@@ -176,7 +180,11 @@ fn tell_place<W: Write>(place: &Place, facts: &mut Facts<W>) {
     }
 }
 
-fn tell_list<W: Write>(game: &PlayedGame, place: &Place, facts: &mut Facts<W>) -> Result<(), Stop>
+fn tell_list<W: Write>(
+    game: &PlayedGame,
+    place: &Place,
+    facts: &mut Facts<W>,
+) -> Result<(), RunError>
     requires { IsPlaceOf game.now place.now }
 {
     match game.list_moves(place, LISTED) {
@@ -199,11 +207,11 @@ fn tell_lengths<W: Write>(
     place: &Place,
     max: usize,
     facts: &mut Facts<W>,
-) -> Result<(), Stop>
+) -> Result<(), RunError>
     requires { IsPlaceOf game.now place.now }
 {
     if max == 0 {
-        return Err(Stop::Wrong);
+        return Err(RunError::Wrong);
     }
     match game.list_moves(place, max) {
         Ok(listed) => tell_measured(&listed, facts),

@@ -2,7 +2,7 @@
 ghost use Rattle.std.specs.Prelude.{◌≡◌, IfOk, length};
 ghost use Rattle.rbg_match.specs.PlayingOn.{seats_of};
 
-use crate::stop::Stop;
+use crate::run_error::RunError;
 use rbg_game::load;
 use rbg_match::{Config, Match, Outbox};
 use std::alloc::Global;
@@ -13,7 +13,7 @@ pub fn new_match(
     text: &[u8],
     config: Config,
     now: u64,
-) -> Result<(Match, Outbox), Stop>
+) -> Result<(Match, Outbox), RunError>
     ensures { IfOk result (λ made. length made.1 ≡ seats_of made.0.game) }
 {
     let game = load(alloc, text)?;

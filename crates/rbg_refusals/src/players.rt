@@ -1,7 +1,7 @@
 //! Runs of players.
 
 use crate::printing::{Facts, KEPT};
-use crate::stop::Stop;
+use crate::run_error::RunError;
 use rbg_player::{FirstChooser, Heard, Player, PlayerError};
 use std::alloc::Global;
 use std::io::Write;
@@ -14,16 +14,16 @@ const OPENING: &[u8] = b"W1 white\0G#players = white(100), black(100)
 \0L1000 3\0M0 1\0";
 
 /// Makes the run of a name, if it is one of these. No other module follows.
-pub fn run<W: Write>(alloc: Global, name: &str, facts: &mut Facts<W>) -> Result<(), Stop> {
+pub fn run<W: Write>(alloc: Global, name: &str, facts: &mut Facts<W>) -> Result<(), RunError> {
     match name {
         "hear" => hear(alloc, facts),
         "join" => join(alloc, facts),
-        _ => Err(Stop::Unknown),
+        _ => Err(RunError::Unknown),
     }
 }
 
 /// Hands a player the start of its match, so that it sends its move.
-fn hear<W: Write>(alloc: Global, facts: &mut Facts<W>) -> Result<(), Stop> {
+fn hear<W: Write>(alloc: Global, facts: &mut Facts<W>) -> Result<(), RunError> {
     let mut outgoing = Vec::from_slice(alloc, KEPT)?;
     hear_opening(&mut Player::new(alloc), &mut outgoing, facts);
     Ok(())
@@ -50,7 +50,7 @@ fn hear_again<W: Write>(player: &mut Player, outgoing: &mut Vec<u8>, facts: &mut
 }
 
 /// Makes a player that asks for a seat.
-fn join<W: Write>(alloc: Global, facts: &mut Facts<W>) -> Result<(), Stop> {
+fn join<W: Write>(alloc: Global, facts: &mut Facts<W>) -> Result<(), RunError> {
     let mut outgoing = Vec::from_slice(alloc, KEPT)?;
     let went_well = Player::join(alloc, u64::MAX, &mut outgoing).is_ok();
     facts.appended(went_well, outgoing.as_slice());

@@ -3,7 +3,7 @@
 use crate::games::{GAME, played};
 use crate::players;
 use crate::printing::Facts;
-use crate::stop::Stop;
+use crate::run_error::RunError;
 use rbg_game::{Game, load};
 use rbg_moves::PlayedGame;
 use rbg_record::{Checked, RecordError, check_record, migrate};
@@ -36,7 +36,7 @@ const NOT_FINISHED: &[u8] = b"rbg 1\n0 0 1\nE0 0 0\n";
 const NO_END: &[u8] = b"rbg 1\n0 0 1\n";
 
 /// Makes the run of a name, if it is one of these; else the next module does.
-pub fn run<W: Write>(alloc: Global, name: &str, facts: &mut Facts<W>) -> Result<(), Stop> {
+pub fn run<W: Write>(alloc: Global, name: &str, facts: &mut Facts<W>) -> Result<(), RunError> {
     match name {
         "check-record-timed" => check(alloc, TIMED, facts),
         "check-record-plain" => check(alloc, PLAIN, facts),
@@ -58,7 +58,7 @@ fn tell_error<W: Write>(error: RecordError, facts: &mut Facts<W>) {
 }
 
 /// Checks a record of the small game.
-fn check<W: Write>(alloc: Global, record: &[u8], facts: &mut Facts<W>) -> Result<(), Stop> {
+fn check<W: Write>(alloc: Global, record: &[u8], facts: &mut Facts<W>) -> Result<(), RunError> {
     let game = played(alloc, GAME)?;
     tell_checked(&game, record, facts);
     Ok(())
@@ -73,7 +73,7 @@ fn tell_checked<W: Write>(game: &PlayedGame, record: &[u8], facts: &mut Facts<W>
 }
 
 /// Makes version 2 of a record of the small game.
-fn migrate_plain<W: Write>(alloc: Global, facts: &mut Facts<W>) -> Result<(), Stop> {
+fn migrate_plain<W: Write>(alloc: Global, facts: &mut Facts<W>) -> Result<(), RunError> {
     let game = load(alloc, GAME)?;
     tell_migrated(alloc, &game, facts);
     Ok(())

@@ -1,10 +1,10 @@
 //! Runs of the searches for moves, and of the counts of their sequences.
-ghost use Rattle.rbg_rules.specs.Meaning.{IsStateOf};
+ghost use Rattle.rbg_rules.specs.Meaning.{IsPatternAt, IsStateOf};
 
 use crate::games::{SQUARES, WALK, played};
 use crate::messages;
 use crate::printing::Facts;
-use crate::stop::Stop;
+use crate::run_error::RunError;
 use rbg_auto::{Compact, Expr, Steps, compact};
 use rbg_base::{Pair, Position};
 use rbg_game::{Game, load};
@@ -37,7 +37,7 @@ enum Question {
 }
 
 /// Makes the run of a name, if it is one of these; else the next module does.
-pub fn run<W: Write>(alloc: Global, name: &str, facts: &mut Facts<W>) -> Result<(), Stop> {
+pub fn run<W: Write>(alloc: Global, name: &str, facts: &mut Facts<W>) -> Result<(), RunError> {
     match name {
         "reach" => ask(alloc, Question::Reach, facts),
         "pattern" => ask(alloc, Question::Pattern, facts),
@@ -62,7 +62,7 @@ pub fn tell_pair<W: Write>(word: &str, pair: Pair, facts: &mut Facts<W>) {
 }
 
 /// Asks a question at the start of the walk.
-fn ask<W: Write>(alloc: Global, question: Question, facts: &mut Facts<W>) -> Result<(), Stop> {
+fn ask<W: Write>(alloc: Global, question: Question, facts: &mut Facts<W>) -> Result<(), RunError> {
     let game = load(alloc, WALK)?;
     ask_game(alloc, &game, question, facts)
 }
@@ -72,7 +72,7 @@ fn ask_game<W: Write>(
     game: &Game,
     question: Question,
     facts: &mut Facts<W>,
-) -> Result<(), Stop> {
+) -> Result<(), RunError> {
     let steps = compact(alloc, game)?;
     ask_by(alloc, game, &steps, question, facts)
 }
@@ -83,52 +83,47 @@ fn ask_by<W: Write>(
     steps: &Compact,
     question: Question,
     facts: &mut Facts<W>,
-) -> Result<(), Stop>
+) -> Result<(), RunError>
     requires { ⟦<Compact as Steps>⟧.of_rules steps.now game.now.rules }
 {
+    if game.positions() < ASKED as usize || !game.is_pattern(ASKED) {
+        return Err(RunError::Wrong);
+    }
     let mut place = Place::start(alloc, game)?;
-    ask_from(alloc, game, steps, question, &mut place.state, facts)
+    let mut buffers = Buffers::new(alloc);
+    let mut search = Search::new(alloc, game, steps, BUDGET, &mut buffers);
+    ask_from(&mut search, question, &mut place.state, facts)
 }
 
 /// Asks the question, and compares the semi-state that is lent with a copy taken before.
 fn ask_from<W: Write>(
-    alloc: Global,
-    game: &Game,
-    steps: &Compact,
+    search: &mut Search<'_, Compact>,
     question: Question,
     state: &mut SemiState,
     facts: &mut Facts<W>,
-) -> Result<(), Stop>
-    requires steps { ⟦<Compact as Steps>⟧.of_rules steps.now game.now.rules }
-    requires state { IsStateOf game.now state.old.state }
+) -> Result<(), RunError>
+    requires pattern { IsPatternAt search.old.game.rules ASKED }
+    requires state { IsStateOf search.old.game state.old.state }
 {
     let copy = state.try_clone()?;
-    ask_lent(alloc, game, steps, question, state, facts)?;
+    ask_lent(search, question, state, facts);
     facts.kept("semi-state is", *state == copy);
     Ok(())
 }
 
 fn ask_lent<W: Write>(
-    alloc: Global,
-    game: &Game,
-    steps: &Compact,
+    search: &mut Search<'_, Compact>,
     question: Question,
     state: &mut SemiState,
     facts: &mut Facts<W>,
-) -> Result<(), Stop>
-    requires steps { ⟦<Compact as Steps>⟧.of_rules steps.now game.now.rules }
-    requires state { IsStateOf game.now state.old.state }
+)
+    requires pattern { IsPatternAt search.old.game.rules ASKED }
+    requires state { IsStateOf search.old.game state.old.state }
 {
-    if game.positions() < ASKED as usize || !game.is_pattern(ASKED) {
-        return Err(Stop::Wrong);
-    }
-    let mut buffers = Buffers::new(alloc);
-    let mut search = Search::new(alloc, game, steps, BUDGET, &mut buffers);
     match question {
         Question::Reach => tell_reached(&search.reach(state, Origin::Begin(Expr::Rules)), facts),
         Question::Pattern => tell_valid(search.pattern(state, ASKED), facts),
     }
-    Ok(())
 }
 
 fn tell_reached<W: Write>(answer: &Result<FlatPart, Over>, facts: &mut Facts<W>) {
@@ -154,7 +149,7 @@ fn tell_valid<W: Write>(answer: Result<bool, Over>, facts: &mut Facts<W>) {
 }
 
 /// Counts the sequences of three moves from the beginning of play.
-fn count<W: Write>(alloc: Global, facts: &mut Facts<W>) -> Result<(), Stop> {
+fn count<W: Write>(alloc: Global, facts: &mut Facts<W>) -> Result<(), RunError> {
     tell_count(alloc, &played(alloc, SQUARES)?, facts);
     Ok(())
 }

@@ -7,9 +7,9 @@ use crate::halls;
 use crate::lines::{Plan, ROOM, tell_served, two_lines};
 use crate::opening::new_match;
 use crate::printing::Facts;
-use crate::stop::Stop;
+use crate::run_error::RunError;
 use rbg_match::{Match, Outbox};
-use rbg_serving::{ListClock, MemoryLine, Take, serve};
+use rbg_serving::{ListClock, MemoryLine, ServeError, Served, Take, serve};
 use std::alloc::Global;
 use std::io::Write;
 
@@ -91,7 +91,7 @@ const FAILING_AND_STUCK: Service = Service {
 };
 
 /// Makes the run of a name, if it is one of these; else the next module does.
-pub fn run<W: Write>(alloc: Global, name: &str, facts: &mut Facts<W>) -> Result<(), Stop> {
+pub fn run<W: Write>(alloc: Global, name: &str, facts: &mut Facts<W>) -> Result<(), RunError> {
     match name {
         "serve" => serve_match(alloc, &FAILING, facts),
         "serve-byte-by-byte" => serve_match(alloc, &SLOW, facts),
@@ -106,7 +106,7 @@ fn serve_match<W: Write>(
     alloc: Global,
     service: &Service,
     facts: &mut Facts<W>,
-) -> Result<(), Stop> {
+) -> Result<(), RunError> {
     let (mut opened, mut outbox) = new_match(alloc, service.text, CONFIG, 0)?;
     serve_in(alloc, service, &mut opened, &mut outbox, facts)
 }
@@ -117,30 +117,34 @@ fn serve_in<W: Write>(
     opened: &mut Match,
     outbox: &mut Outbox,
     facts: &mut Facts<W>,
-) -> Result<(), Stop>
+) -> Result<(), RunError>
     requires { length outbox.old ≡ seats_of opened.old.game }
 {
+    if opened.players() != service.lines.len() {
+        return Err(RunError::Wrong);
+    }
     let mut lines = two_lines(alloc, &service.lines)?;
-    serve_over(alloc, &mut lines, service.rounds, opened, outbox, facts)
+    let mut clock = ListClock::new(Vec::new(alloc));
+    let served = serve(
+        alloc,
+        &mut lines,
+        opened,
+        outbox,
+        &mut clock,
+        service.rounds,
+    );
+    tell_whole(served, &lines, outbox, facts)
 }
 
-fn serve_over<W: Write>(
-    alloc: Global,
-    lines: &mut [MemoryLine; 2],
-    rounds: u64,
-    opened: &mut Match,
-    outbox: &mut Outbox,
+/// Prints how a match was served, and what is queued for both seats.
+fn tell_whole<W: Write>(
+    served: Result<Served, ServeError>,
+    lines: &[MemoryLine; 2],
+    outbox: &Outbox,
     facts: &mut Facts<W>,
-) -> Result<(), Stop>
-    requires { length outbox.old ≡ seats_of opened.old.game }
-{
-    if opened.players() != lines.len() {
-        return Err(Stop::Wrong);
-    }
-    let mut clock = ListClock::new(Vec::new(alloc));
-    let served = serve(alloc, lines, opened, outbox, &mut clock, rounds);
+) -> Result<(), RunError> {
     if outbox.seats() != 2 {
-        return Err(Stop::Wrong);
+        return Err(RunError::Wrong);
     }
     tell_served(served, lines, [outbox.bytes(1), outbox.bytes(2)], facts);
     Ok(())

@@ -3,7 +3,7 @@
 use crate::games::{GAME, MACROS, SCRIPT, WALK};
 use crate::limits;
 use crate::printing::Facts;
-use crate::stop::Stop;
+use crate::run_error::RunError;
 use rbg_auto::{Expr, Steps, compact, compile};
 use rbg_base::Position;
 use rbg_game::{Game, load, load_with_layout};
@@ -22,7 +22,7 @@ const ARGUMENTS: &[u8] = b"#h(a) = ab a\n#rules = h(x)";
 const SHOWN: usize = 4;
 
 /// Makes the run of a name, if it is one of these; else the next module does.
-pub fn run<W: Write>(alloc: Global, name: &str, facts: &mut Facts<W>) -> Result<(), Stop> {
+pub fn run<W: Write>(alloc: Global, name: &str, facts: &mut Facts<W>) -> Result<(), RunError> {
     match name {
         "load" => tell_load(alloc, GAME, facts),
         "load-macros" => tell_load(alloc, MACROS, facts),
@@ -36,7 +36,7 @@ pub fn run<W: Write>(alloc: Global, name: &str, facts: &mut Facts<W>) -> Result<
 }
 
 /// Loads a text, and prints its game.
-fn tell_load<W: Write>(alloc: Global, text: &[u8], facts: &mut Facts<W>) -> Result<(), Stop> {
+fn tell_load<W: Write>(alloc: Global, text: &[u8], facts: &mut Facts<W>) -> Result<(), RunError> {
     match load(alloc, text) {
         Ok(game) => tell_game(&game, facts),
         Err(error) => facts.refusal(error.is_memory(), &error),
@@ -68,7 +68,11 @@ fn tell_actions<W: Write>(game: &Game, facts: &mut Facts<W>) {
 }
 
 /// Expands the sections of a text, and prints them.
-pub fn tell_expand<W: Write>(alloc: Global, text: &[u8], facts: &mut Facts<W>) -> Result<(), Stop> {
+pub fn tell_expand<W: Write>(
+    alloc: Global,
+    text: &[u8],
+    facts: &mut Facts<W>,
+) -> Result<(), RunError> {
     let tokens = tokens(alloc, text)?;
     tell_expansion(alloc, &tokens, facts);
     Ok(())
@@ -103,7 +107,7 @@ fn tell_automaton<W: Write>(
     alloc: Global,
     is_compact: bool,
     facts: &mut Facts<W>,
-) -> Result<(), Stop> {
+) -> Result<(), RunError> {
     let game = load(alloc, WALK)?;
     if is_compact {
         tell_compact(alloc, &game, facts);
@@ -139,7 +143,7 @@ fn tell_steps<S: Steps, W: Write>(steps: &S, game: &Game, facts: &mut Facts<W>) 
 }
 
 /// Shows the moves of a match of the small game on the board.
-fn show_moves<W: Write>(alloc: Global, facts: &mut Facts<W>) -> Result<(), Stop> {
+fn show_moves<W: Write>(alloc: Global, facts: &mut Facts<W>) -> Result<(), RunError> {
     let tokens = tokens(alloc, GAME)?;
     show_game(alloc, &tokens, facts)
 }
@@ -148,7 +152,7 @@ fn show_game<W: Write>(
     alloc: Global,
     tokens: &Tokens<'_>,
     facts: &mut Facts<W>,
-) -> Result<(), Stop> {
+) -> Result<(), RunError> {
     let loaded = load_with_layout(alloc, tokens)?;
     let shown = show(alloc, loaded, SCRIPT, false)?;
     facts.bytes(shown.text.as_slice());

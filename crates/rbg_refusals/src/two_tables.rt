@@ -5,7 +5,7 @@ ghost use Rattle.rbg_hall.specs.Openings.{AreLoaded};
 use crate::halls::table;
 use crate::printing::Facts;
 use crate::records;
-use crate::stop::Stop;
+use crate::run_error::RunError;
 use rbg_base::Memory;
 use rbg_hall::{Hall, HallEvent, HallOut, Table};
 use rbg_serving::MemoryLog;
@@ -64,7 +64,7 @@ const HEARD: [HallEvent<'static>; EVENTS] = [
 ];
 
 /// Makes the run of a name, if it is this one; else the next module does.
-pub fn run<W: Write>(alloc: Global, name: &str, facts: &mut Facts<W>) -> Result<(), Stop> {
+pub fn run<W: Write>(alloc: Global, name: &str, facts: &mut Facts<W>) -> Result<(), RunError> {
     match name {
         "hall-two-tables" => make(alloc, facts),
         _ => records::run(alloc, name, facts),
@@ -72,7 +72,7 @@ pub fn run<W: Write>(alloc: Global, name: &str, facts: &mut Facts<W>) -> Result<
 }
 
 /// The two tables of a hall.
-fn two_tables(alloc: Global) -> Result<Vec<Table>, Stop>
+fn two_tables(alloc: Global) -> Result<Vec<Table>, RunError>
     ensures { IfOk result (λ tables. AreLoaded tables.items) }
 {
     let mut tables = Vec::with_capacity(alloc, 2)?;
@@ -82,7 +82,7 @@ fn two_tables(alloc: Global) -> Result<Vec<Table>, Stop>
 }
 
 /// Makes a hall of two tables, which handles the events.
-fn make<W: Write>(alloc: Global, facts: &mut Facts<W>) -> Result<(), Stop> {
+fn make<W: Write>(alloc: Global, facts: &mut Facts<W>) -> Result<(), RunError> {
     let tables = two_tables(alloc)?;
     let (mut hall, mut out) = Hall::new(alloc, tables)?;
     hear(&mut hall, &mut out, facts);
