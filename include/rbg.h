@@ -62,10 +62,19 @@ typedef struct rbg_pair {
 } rbg_pair;
 enum { RBG_MOST_PAIRS = 200 };
 
+/* The offset of what is at no byte, and the number of no vertex. */
+#define RBG_NO_OFFSET UINT64_MAX
+#define RBG_NO_VERTEX UINT32_MAX
+
 /* ---- descriptions and states */
 
 /* Whether a text is the description of a game, and if it isn't, which layer refuses it. */
 rbg_result rbg_check(const uint8_t *text, size_t length);
+
+/* Answers the same. If a layer refuses the text, it stores the number of the refusal, as `rbg check` prints it after the
+   layer's name, and the offset of the byte at which it is, or RBG_NO_OFFSET. A fault of the board is one of RBG_GAME; its
+   number is 10 above that which is printed after `board`. */
+rbg_result rbg_fault(const uint8_t *text, size_t length, uint64_t *number, uint64_t *offset);
 
 /* Opens the game of a description, and stores the state to which the keeper's first moves lead. A state that the handle
    held is let go, if the call succeeds. */
@@ -110,15 +119,42 @@ rbg_result rbg_board(rbg_state *state, uint16_t *pieces, size_t room, uint64_t *
 rbg_result rbg_values(rbg_state *state, uint32_t *values, size_t room, uint64_t *needed);
 rbg_result rbg_scores(rbg_state *state, uint64_t *scores, size_t room, uint64_t *needed);
 
-/* The name of a player, a piece or a variable, by its kind and its index from 0: bytes, with no zero byte after them.
-   RBG_RANGE if there is none. */
-enum { RBG_PLAYERS = 0, RBG_PIECES = 1, RBG_VARIABLES = 2 };
+/* ---- what a game is, by any of its states */
+
+/* The name of a player, a piece, a variable or a direction, by its kind and its index from 0: bytes, with no zero byte
+   after them. RBG_RANGE if there is none. */
+enum { RBG_PLAYERS = 0, RBG_PIECES = 1, RBG_VARIABLES = 2, RBG_DIRECTIONS = 3 };
 rbg_result rbg_name(rbg_state *state, uint32_t kind, uint64_t index, uint8_t *name, size_t room, uint64_t *needed);
+
+/* The greatest number that each variable may hold. */
+rbg_result rbg_bounds(rbg_state *state, uint32_t *bounds, size_t room, uint64_t *needed);
+
+/* The edges of the board. For each vertex in turn there is a number for each direction: the vertex to which it leads, or
+   RBG_NO_VERTEX. There are as many vertices as rbg_board has pieces. */
+rbg_result rbg_edges(rbg_state *state, uint32_t *edges, size_t room, uint64_t *needed);
+
+/* The action at a position of the rules, from 1: its kind, and the numbers of what it names: a direction, pieces, a piece, a
+   variable or a player. RBG_RANGE if there is none. */
+enum {
+  RBG_SHIFT = 0, /* to where a direction leads */
+  RBG_ON = 1,    /* one of these pieces is there */
+  RBG_OFF = 2,   /* a piece is put there; a modifier, as are the next and RBG_SWITCH */
+  RBG_ASSIGN = 3,
+  RBG_COMPARE = 4,
+  RBG_SWITCH = 5,
+  RBG_POSITIVE = 6, /* a pattern, whose inside has the next positions */
+  RBG_NEGATIVE = 7
+};
+rbg_result rbg_action(rbg_state *state, uint64_t position, uint32_t *kind, uint16_t *numbers, size_t room, uint64_t *needed);
 
 /* ---- moves */
 
 /* Finds the legal moves, and stores how many they are. They stay found until a move is made or undone. */
 rbg_result rbg_find_moves(rbg_state *state, uint64_t *count);
+
+/* Finds the legal moves, and stores all of them as numbers, in the order of their indices: of each move how many pairs it
+   has, and then the vertex and the position of each. */
+rbg_result rbg_moves(rbg_state *state, uint32_t *numbers, size_t room, uint64_t *needed);
 
 /* The pairs of the move of this index, from 0, among those that were found. */
 rbg_result rbg_move(rbg_state *state, uint64_t index, rbg_pair *pairs, size_t room, uint64_t *needed);

@@ -40,7 +40,11 @@ int main(int argc, char **argv) {
     for (uint64_t many = chance(3); many > 0 && size > 0; many--)
       spoilt[1 + chance(size)] = (uint8_t)chance(256);
     rbg_result result = rbg_check(spoilt + 1, size);
-    if (result >= 32)
+    uint64_t number = 0, offset = RBG_NO_OFFSET;
+    if (result >= 32 || rbg_fault(spoilt + 1, size, &number, &offset) != result)
+      return 1;
+    /* only a fault has a number, and it is at a byte of the text, at its end, or at none */
+    if ((result != RBG_OK) != (number != 0) || (offset > size && offset != RBG_NO_OFFSET))
       return 1;
     counts[result]++;
     free(spoilt);

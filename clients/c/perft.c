@@ -12,33 +12,31 @@ static void must(rbg_result result, const char *call) {
   }
 }
 
-typedef struct move {
-  uint64_t length;
-  rbg_pair pairs[RBG_MOST_PAIRS];
-} move;
-
-/* The moves that were found: they are kept here, since a move that is made lets them go. */
-static move *found(rbg_state *state, uint64_t count) {
-  move *moves = malloc((count + 1) * sizeof(move));
-  if (!moves)
+/* The legal moves, as numbers. They are kept here, since a move that is made lets those go that were found. */
+static uint32_t *found(rbg_state *state, uint64_t *length) {
+  uint32_t none;
+  rbg_result result = rbg_moves(state, &none, 0, length);
+  uint32_t *numbers = malloc((*length + 1) * sizeof *numbers);
+  if (!numbers)
     exit(1);
-  for (uint64_t i = 0; i < count; i++)
-    must(rbg_move(state, i, moves[i].pairs, RBG_MOST_PAIRS, &moves[i].length), "rbg_move");
-  return moves;
+  if (result == RBG_SMALL)
+    result = rbg_moves(state, numbers, *length, length);
+  must(result, "rbg_moves");
+  return numbers;
 }
 
 static uint64_t count(rbg_state *state, int depth) {
-  uint64_t number = 0, sum = 0;
+  uint64_t number = 0, length = 0, sum = 0;
   must(rbg_find_moves(state, &number), "rbg_find_moves");
   if (depth <= 1)
     return number;
-  move *moves = found(state, number);
-  for (uint64_t i = 0; i < number; i++) {
-    must(rbg_make(state, moves[i].pairs, moves[i].length), "rbg_make");
+  uint32_t *numbers = found(state, &length);
+  for (uint64_t i = 0; i < length; i += 1 + 2 * numbers[i]) {
+    must(rbg_make(state, (const rbg_pair *)&numbers[i + 1], numbers[i]), "rbg_make");
     sum += count(state, depth - 1);
     must(rbg_undo(state), "rbg_undo");
   }
-  free(moves);
+  free(numbers);
   return sum;
 }
 

@@ -42,7 +42,19 @@ static rbg_result tell(rbg_state *state) {
   uint64_t needed = 0;
   rbg_result result;
   void *buffer;
-  switch (chance(5)) {
+  uint32_t kind = 0;
+  switch (chance(8)) {
+  case 5:
+    result = rbg_bounds(state, buffer = room_for(room, 4), room, &needed);
+    break;
+  case 6:
+    room *= chance(8);
+    result = rbg_edges(state, buffer = room_for(room, 4), room, &needed);
+    break;
+  case 7:
+    result = rbg_action(state, chance(40), &kind, buffer = room_for(room, 2), room, &needed);
+    check(kind <= RBG_NEGATIVE, "a kind of action");
+    break;
   case 0:
     result = rbg_board(state, buffer = room_for(room, 2), room, &needed);
     break;
@@ -53,7 +65,7 @@ static rbg_result tell(rbg_state *state) {
     result = rbg_scores(state, buffer = room_for(room, 8), room, &needed);
     break;
   case 3:
-    result = rbg_name(state, (uint32_t)chance(4), chance(6), buffer = room_for(room, 1), room, &needed);
+    result = rbg_name(state, (uint32_t)chance(5), chance(6), buffer = room_for(room, 1), room, &needed);
     break;
   default:
     result = rbg_move(state, chance(12), buffer = room_for(room, sizeof(rbg_pair)), room, &needed);
@@ -117,11 +129,35 @@ static rbg_result packed(rbg_state *state, rbg_state *other) {
   return result;
 }
 
+/* All moves at once: those that are told one by one. */
+static rbg_result listed(rbg_state *state) {
+  size_t room = chance(4) ? 9000 : chance(64);
+  uint64_t needed = 0, count = 0, length = 0, at = 0;
+  uint32_t *numbers = room_for(room, 4);
+  rbg_pair pairs[RBG_MOST_PAIRS];
+  rbg_result result = rbg_moves(state, numbers, room, &needed);
+  check(result != RBG_OK || needed <= room, "room");
+  check(result != RBG_SMALL || (needed > room && ((char *)numbers)[0] == 0x5a), "a buffer that is too small");
+  if (result == RBG_OK) {
+    check(rbg_find_moves(state, &count) == RBG_OK, "find");
+    for (uint64_t i = 0; i < count; i++) {
+      check(rbg_move(state, i, pairs, RBG_MOST_PAIRS, &length) == RBG_OK && length == numbers[at], "a move's length");
+      check(memcmp(pairs, &numbers[at + 1], length * sizeof(rbg_pair)) == 0, "a move's pairs");
+      at += 1 + 2 * length;
+    }
+    check(at == needed, "all moves");
+  }
+  free(numbers);
+  return result;
+}
+
 /* One call, good or bad. */
 static rbg_result call(rbg_state *state, rbg_state *other) {
   uint64_t key = 0, count = 0, made = 0;
   uint32_t player = 0;
-  switch (chance(16)) {
+  switch (chance(17)) {
+  case 16:
+    return listed(state);
   case 12:
     return tell(state);
   case 13:

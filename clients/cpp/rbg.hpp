@@ -46,6 +46,24 @@ inline Move move_of(const std::string &text) {
   return move;
 }
 
+/// Why a text is no description: which layer refuses it, as RBG_SYNTAX, by which number, and at which byte. RBG_OK if it is one.
+struct Fault {
+  rbg_result layer;
+  uint64_t number, offset;
+};
+
+inline Fault fault_of(const std::string &text) {
+  Fault found{RBG_OK, 0, RBG_NO_OFFSET};
+  found.layer = rbg_fault(reinterpret_cast<const uint8_t *>(text.c_str()), text.size(), &found.number, &found.offset);
+  return found;
+}
+
+/// An action of the rules: its kind, as RBG_SHIFT, and the numbers of what it names.
+struct Action {
+  uint32_t kind;
+  std::vector<uint16_t> numbers;
+};
+
 /// How random matches ended that ended alike: the players' scores, and how many matches they are.
 struct Ending {
   std::vector<uint64_t> scores;
@@ -105,7 +123,22 @@ public:
   std::vector<uint32_t> values() const { return items<uint32_t>(rbg_values, at()); }
   std::vector<uint64_t> scores() const { return items<uint64_t>(rbg_scores, at()); }
 
-  /// The names of the players, the pieces or the variables: RBG_PLAYERS, RBG_PIECES, RBG_VARIABLES.
+  /// The greatest number of each variable, and for each vertex in turn where each direction leads, or RBG_NO_VERTEX.
+  std::vector<uint32_t> bounds() const { return items<uint32_t>(rbg_bounds, at()); }
+  std::vector<uint32_t> edges() const { return items<uint32_t>(rbg_edges, at()); }
+
+  /// The action at a position, from 1.
+  Action action(uint64_t position) const {
+    Action found{0, std::vector<uint16_t>(1)};
+    uint64_t needed = 0;
+    rbg_result result = rbg_action(at(), position, &found.kind, found.numbers.data(), 1, &needed);
+    found.numbers.resize(needed + 1);
+    must(result == RBG_SMALL ? rbg_action(at(), position, &found.kind, found.numbers.data(), needed, &needed) : result);
+    found.numbers.resize(needed);
+    return found;
+  }
+
+  /// The names of the players, the pieces, the variables or the directions: RBG_PLAYERS, RBG_PIECES, ..
   std::vector<std::string> names(uint32_t kind) const {
     std::vector<std::string> found;
     for (;;) {
@@ -129,6 +162,19 @@ public:
     uint64_t length = 0;
     must(rbg_move(at(), index, found.data(), found.size(), &length));
     found.resize(length);
+    return found;
+  }
+
+  /// All legal moves, in the order of their indices.
+  std::vector<Move> moves() const {
+    std::vector<uint32_t> numbers = items<uint32_t>(rbg_moves, at());
+    std::vector<Move> found;
+    for (size_t i = 0; i < numbers.size(); i += 1 + 2 * numbers[i]) {
+      Move move;
+      for (uint32_t pair = 0; pair < numbers[i]; pair++)
+        move.push_back({numbers[i + 1 + 2 * pair], numbers[i + 2 + 2 * pair]});
+      found.push_back(move);
+    }
     return found;
   }
 

@@ -1,5 +1,6 @@
 //! States of games in Rust, over the library of rbg.h. Each state lets go what it holds.
 
+use std::cell::Cell;
 use std::ffi::c_void;
 use std::fmt;
 
@@ -20,6 +21,7 @@ pub struct Pair {
 extern "C" {
     fn rbg_open(text: *const u8, length: usize, state: *mut Handle) -> u32;
     fn rbg_begin(text: *const u8, length: usize, state: *mut Handle) -> u32;
+    fn rbg_fault(text: *const u8, length: usize, number: *mut u64, offset: *mut u64) -> u32;
     fn rbg_free(state: *mut Handle);
     fn rbg_copy(from: *mut Handle, to: *mut Handle) -> u32;
     fn rbg_unpack(from: *mut Handle, bytes: *const u8, length: usize, to: *mut Handle) -> u32;
@@ -30,8 +32,12 @@ extern "C" {
     fn rbg_board(state: *mut Handle, pieces: *mut u16, room: usize, needed: *mut u64) -> u32;
     fn rbg_values(state: *mut Handle, values: *mut u32, room: usize, needed: *mut u64) -> u32;
     fn rbg_scores(state: *mut Handle, scores: *mut u64, room: usize, needed: *mut u64) -> u32;
+    fn rbg_bounds(state: *mut Handle, bounds: *mut u32, room: usize, needed: *mut u64) -> u32;
+    fn rbg_edges(state: *mut Handle, edges: *mut u32, room: usize, needed: *mut u64) -> u32;
+    fn rbg_action(state: *mut Handle, position: u64, kind: *mut u32, numbers: *mut u16, room: usize, needed: *mut u64) -> u32;
     fn rbg_name(state: *mut Handle, kind: u32, index: u64, name: *mut u8, room: usize, needed: *mut u64) -> u32;
     fn rbg_find_moves(state: *mut Handle, count: *mut u64) -> u32;
+    fn rbg_moves(state: *mut Handle, numbers: *mut u32, room: usize, needed: *mut u64) -> u32;
     fn rbg_move(state: *mut Handle, index: u64, pairs: *mut Pair, room: usize, needed: *mut u64) -> u32;
     fn rbg_make_found(state: *mut Handle, index: u64) -> u32;
     fn rbg_make(state: *mut Handle, pairs: *const Pair, length: usize) -> u32;
@@ -41,27 +47,13 @@ extern "C" {
     fn rbg_play_on(from: *mut Handle, to: *mut Handle, seed: u64, most: u64, made: *mut u64) -> u32;
 }
 
-/// Why a call wasn't done.
+/// Why a call wasn't done: the number of its answer in rbg.h, as 5 if a move isn't legal.
 #[derive(Clone, Copy, Debug, PartialEq, Eq)]
-pub enum Refused {
-    Memory,
-    Over,
-    Keeper,
-    Illegal,
-    Start,
-    Range,
-    NoPlace,
-    Text,
-    Macro,
-    Syntax,
-    Game,
-    /// An answer that this wrapper keeps from coming.
-    Other(u32),
-}
+pub struct Refused(pub u32);
 
 impl fmt::Display for Refused {
     fn fmt(&self, out: &mut fmt::Formatter) -> fmt::Result {
-        write!(out, "rbg answers {self:?}")
+        write!(out, "rbg answers {}", self.0)
     }
 }
 
@@ -70,21 +62,14 @@ impl std::error::Error for Refused {}
 const SMALL: u32 = 7;
 
 fn answer(result: u32) -> Result<(), Refused> {
-    Err(match result {
-        0 => return Ok(()),
-        2 => Refused::Memory,
-        3 => Refused::Over,
-        4 => Refused::Keeper,
-        5 => Refused::Illegal,
-        6 => Refused::Start,
-        8 => Refused::Range,
-        9 => Refused::NoPlace,
-        16 => Refused::Text,
-        17 => Refused::Macro,
-        18 => Refused::Syntax,
-        19 => Refused::Game,
-        other => Refused::Other(other),
-    })
+    if result == 0 { Ok(()) } else { Err(Refused(result)) }
+}
+
+/// Why a text is no description, if it is none: the layer that refuses it, the number of the fault, and the byte at which it is.
+pub fn fault(text: &[u8]) -> Option<(Refused, u64, Option<u64>)> {
+    let (mut number, mut offset) = (0, u64::MAX);
+    let layer = answer(unsafe { rbg_fault(text.as_ptr(), text.len(), &mut number, &mut offset) }).err()?;
+    Some((layer, number, Some(offset).filter(|at| *at != u64::MAX)))
 }
 
 /// Which names are asked for.
@@ -93,6 +78,7 @@ pub enum Kind {
     Players = 0,
     Pieces = 1,
     Variables = 2,
+    Directions = 3,
 }
 
 /// How random matches ended that ended alike.
@@ -100,6 +86,15 @@ pub enum Kind {
 pub struct Ending {
     pub scores: Vec<u64>,
     pub matches: u64,
+}
+
+macro_rules! items {
+    ($($(#[$text:meta])* $name:ident: $call:ident -> $item:ty;)*) => {$(
+        $(#[$text])*
+        pub fn $name(&mut self) -> Result<Vec<$item>, Refused> {
+            self.items(|state, items, room, needed| unsafe { $call(state, items, room, needed) })
+        }
+    )*};
 }
 
 /// A state of play. It is used by the thread that opened its game.
@@ -138,11 +133,6 @@ impl State {
     /// A copy, from which no move can be undone.
     pub fn copy(&mut self) -> Result<State, Refused> {
         State::made(|to| unsafe { rbg_copy(&mut *self.handle, to) })
-    }
-
-    /// The place as bytes.
-    pub fn pack(&mut self) -> Result<Vec<u8>, Refused> {
-        self.items(|state, items, room, needed| unsafe { rbg_pack(state, items, room, needed) })
     }
 
     /// The state at the place of these bytes in this game, from which no move can be undone.
@@ -187,19 +177,28 @@ impl State {
         Ok(items)
     }
 
-    /// The piece on each vertex.
-    pub fn board(&mut self) -> Result<Vec<u16>, Refused> {
-        self.items(|state, items, room, needed| unsafe { rbg_board(state, items, room, needed) })
+    items! {
+        /// The place as bytes.
+        pack: rbg_pack -> u8;
+        /// The piece on each vertex.
+        board: rbg_board -> u16;
+        /// What each variable holds.
+        values: rbg_values -> u32;
+        /// What each player has scored.
+        scores: rbg_scores -> u64;
+        /// The greatest number that each variable may hold.
+        bounds: rbg_bounds -> u32;
+        /// For each vertex in turn where each direction leads; u32::MAX is nowhere.
+        edges: rbg_edges -> u32;
+        /// All legal moves as rbg.h has them: of each how many pairs it has, and these.
+        moves: rbg_moves -> u32;
     }
 
-    /// What each variable holds.
-    pub fn values(&mut self) -> Result<Vec<u32>, Refused> {
-        self.items(|state, items, room, needed| unsafe { rbg_values(state, items, room, needed) })
-    }
-
-    /// What each player has scored.
-    pub fn scores(&mut self) -> Result<Vec<u64>, Refused> {
-        self.items(|state, items, room, needed| unsafe { rbg_scores(state, items, room, needed) })
+    /// The action at a position of the rules, from 1: its kind in rbg.h, and the numbers of what it names.
+    pub fn action(&mut self, position: u64) -> Result<(u32, Vec<u16>), Refused> {
+        let kind = Cell::new(0);
+        let items = self.items(|state, items, room, needed| unsafe { rbg_action(state, position, kind.as_ptr(), items, room, needed) })?;
+        Ok((kind.get(), items))
     }
 
     /// A name, by its index from 0.

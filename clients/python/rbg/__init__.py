@@ -19,7 +19,7 @@ from rbg.game import Game, State
 from rbg.playing import Clock, Outcome, play
 from rbg.spiel import Actions, SpielGame, SpielState
 from rbg.thinking import Thinker
-from rbg.places import Ending, Place, Tried
+from rbg.places import Ending, Place, Shape, Tried
 
 __all__ = [
     "Actions",
@@ -30,6 +30,7 @@ __all__ = [
     "Outcome",
     "Place",
     "Refused",
+    "Shape",
     "SpielGame",
     "SpielState",
     "State",

@@ -15,7 +15,7 @@ import tempfile
 from typing import Optional
 
 from rbg.backend import Answer, Backend, Question, Refused
-from rbg.places import Ending, Move, Place, Tried, tried
+from rbg.places import Ending, Move, Place, Shape, Tried, tried
 
 
 def endings_of(answer: Answer) -> list[Ending]:
@@ -59,6 +59,17 @@ class AskedGround:
         """The names of the players, the pieces and the variables."""
         [names] = self.session.ask(["names"])
         return [line[1:] for line in names]
+
+    def shape(self) -> Shape:
+        """The bounds, directions, edges and actions."""
+        [[(_, _, vertices, _), bounds, directions, *rest]] = self.session.ask(["shape"])
+        edges, actions = rest[: int(vertices)], rest[int(vertices) :]
+        return Shape(
+            bounds=list(map(int, bounds[1:])),
+            directions=directions[1:],
+            edges=[[None if to == "-" else int(to) for to in line[1:]] for line in edges],
+            actions=[(line[1], list(map(int, line[2:]))) for line in actions],
+        )
 
     def hear(self, move: Move) -> None:
         """Follows a move as a referee passes it on. Places of before can't be asked any more."""

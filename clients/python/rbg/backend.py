@@ -93,6 +93,8 @@ class Backend:
         if word in ("moves", "names", "players", "state"):
             more = int(first[1]) if word == "moves" else 2 if word == "players" else 3
             lines += [self.line() for _ in range(more)]
+        elif word == "shape":
+            lines += [self.line() for _ in range(2 + int(first[2]) + int(first[3]))]
         elif word == "random":
             left = int(first[1])
             while left > 0:

@@ -8,11 +8,13 @@
 ...     print(game.unpack(other.pack()) == other, other.undo() == state)
 ...     print(sum(ending.matches for ending in state.playouts(100, seed=1)))
 ...     print([(it.move, it.matches) for it in state.search(10, seed=1)][4])
+...     print(game.shape.directions, game.shape.edges[0], game.shape.actions[:3])
 ['first', 'second'] 1 9 [0, 0, 0, 0]
 2 8 9 False
 True True
 100
 ('4 9 4 10', 10)
+['up', 'down', 'left', 'right'] [None, 3, None, 1] [('assign', [0]), ('assign', [1]), ('switch', [1])]
 """
 
 import os
@@ -24,7 +26,7 @@ from rbg.backend import Refused
 from rbg.library import Library, find_library
 from rbg.loaded import LoadedGround, LoadedPlace
 from rbg.spelling import Spelling
-from rbg.places import Ending, Move, Place, Tried
+from rbg.places import Ending, Move, Place, Shape, Tried
 
 
 class Game:
@@ -80,6 +82,11 @@ class Game:
     def unpack(self, packed: bytes) -> "State":
         """The state of such bytes as `State.pack` gives. No move can be undone in it, and play may never reach it."""
         return State(self, [], self.ground.unpack(packed))
+
+    @property
+    def shape(self) -> Shape:
+        """The bounds of the variables, the directions, the edges of the board, and the actions by position."""
+        return self.ground.shape()
 
     def spell(self, move: Move) -> str:
         """The move for people. If there is no program `rbg_author`, these are its pairs."""

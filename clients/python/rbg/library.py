@@ -23,14 +23,18 @@ from functools import lru_cache
 from typing import Any, Optional
 
 from rbg.backend import Refused
+from rbg.places import Shape
 
 WORDS = {
     1: "empty", 2: "memory", 3: "over", 4: "keeper", 5: "illegal", 6: "start", 7: "small", 8: "form", 9: "place",
     16: "text", 17: "macro", 18: "syntax", 19: "game",
 }  # fmt: skip
-SMALL, RANGE, MOST_PAIRS = 7, 8, 200
+SMALL = 7
 KEPT = 1 << 16  # so many spellings of moves are kept
-PLAYERS, PIECES, VARIABLES = range(3)
+PLAYERS, PIECES, VARIABLES, DIRECTIONS = range(4)
+ROOM = 4096  # so many numbers of moves have room at first
+NOWHERE = 2**32 - 1  # the number of no vertex
+KINDS = ["shift", "on", "off", "assign", "compare", "switch", "positive", "negative"]
 
 
 class Handle(Structure):
@@ -52,9 +56,12 @@ CALLS: dict[str, list[Any]] = {
     "rbg_board": [STATE, POINTER(c_uint16), c_size_t, NUMBER],
     "rbg_values": [STATE, POINTER(c_uint32), c_size_t, NUMBER],
     "rbg_scores": [STATE, NUMBER, c_size_t, NUMBER],
+    "rbg_bounds": [STATE, POINTER(c_uint32), c_size_t, NUMBER],
+    "rbg_edges": [STATE, POINTER(c_uint32), c_size_t, NUMBER],
+    "rbg_action": [STATE, c_uint64, POINTER(c_uint32), POINTER(c_uint16), c_size_t, NUMBER],
+    "rbg_moves": [STATE, c_void_p, c_size_t, c_void_p],
     "rbg_name": [STATE, c_uint32, c_uint64, POINTER(c_uint8), c_size_t, NUMBER],
     "rbg_find_moves": [STATE, NUMBER],
-    "rbg_move": [STATE, c_uint64, PAIRS, c_size_t, NUMBER],
     "rbg_make_found": [STATE, c_uint64],
     "rbg_make": [STATE, PAIRS, c_size_t],
     "rbg_hear": [STATE, PAIRS, c_size_t],
@@ -83,6 +90,7 @@ class Library:
             call = getattr(self.calls, name)
             call.argtypes, call.restype = arguments, c_uint32
         self.calls.rbg_free.argtypes, self.calls.rbg_free.restype = [STATE], None
+        self.calls.rbg_fault.argtypes, self.calls.rbg_fault.restype = [c_void_p, c_size_t, NUMBER, NUMBER], c_uint32
 
     @classmethod
     def load(cls, path: Optional[str] = None) -> "Library":
@@ -102,9 +110,21 @@ class Library:
         """The state where the rules begin."""
         return self.opened("rbg_begin", text)
 
+    def fault(self, text: bytes) -> tuple[int, int, Optional[int]]:
+        """Why a text is no description: the answer of the layer that refuses it, the number of the fault, and the byte at which
+        it is, if it is at one. The first is 0 if it is a description.
+
+        >>> library = Library.load() if find_library() else None
+        >>> library.fault(b"#players = white(1)\\n#pieces = &") if library else (16, 3, 30)
+        (16, 3, 30)
+        """
+        number, offset = c_uint64(), c_uint64(2**64 - 1)
+        layer = self.calls.rbg_fault(array_of(text), len(text), byref(number), byref(offset))
+        return layer, number.value, None if offset.value == 2**64 - 1 else offset.value
+
     def opened(self, name: str, text: bytes) -> "Held":
         held = Held(self)
-        held.answer(name, getattr(self.calls, name)(array_of(text), len(text), byref(held.handle)))
+        held.answer(name, getattr(self.calls, name)(array_of(text), len(text), held.here))
         return held
 
 
@@ -113,16 +133,33 @@ def array_of(text: bytes) -> Any:
     return (c_uint8 * max(1, len(text))).from_buffer_copy(text or b"\0")
 
 
+class Rooms:
+    """Buffers that the states of a game share, since one thread uses them all."""
+
+    def __init__(self) -> None:
+        self.sizes: dict[str, int] = {}  # how many items a call has stored, at most
+        self.needed = c_uint64()
+        self.needs = byref(self.needed)
+        self.widen(ROOM)
+
+    def widen(self, room: int) -> None:
+        """Makes room for so many numbers of moves."""
+        self.room, self.numbers = room, (c_uint32 * room)()
+        self.of_bytes = memoryview(self.numbers).cast("B")
+
+
 class Held:
     """A state of play, behind its handle."""
 
-    def __init__(self, library: Library):
-        self.library, self.handle = library, Handle()
+    def __init__(self, library: Library, rooms: "Optional[Rooms]" = None):
+        self.library, self.calls, self.handle = library, library.calls, Handle()
+        self.here = byref(self.handle)
         self.found: Optional[dict[str, int]] = None  # the legal moves, if they were asked for
+        self.rooms = rooms or Rooms()
         self.made = 0  # how many moves can be undone
 
     def __del__(self) -> None:
-        self.library.calls.rbg_free(byref(self.handle))
+        self.calls.rbg_free(self.here)
 
     @staticmethod
     def answer(name: str, result: int) -> None:
@@ -132,7 +169,7 @@ class Held:
 
     def ask(self, name: str, *arguments: Any) -> None:
         """One call."""
-        self.answer(name, getattr(self.library.calls, name)(byref(self.handle), *arguments))
+        self.answer(name, getattr(self.calls, name)(self.here, *arguments))
 
     def number(self, name: str, kind: Any = c_uint64) -> int:
         """A number that a call stores."""
@@ -141,15 +178,16 @@ class Held:
         return int(value.value)
 
     def items(self, name: str, kind: Any, *arguments: Any) -> list[Any]:
-        """The items that a call stores: it is asked first how many they are."""
-        needed = c_uint64()
-        call = getattr(self.library.calls, name)
-        result = call(byref(self.handle), *arguments, (kind * 1)(), 0, byref(needed))
-        if result != SMALL:
-            self.answer(name, result)
-        room = (kind * max(1, needed.value))()
-        self.ask(name, *arguments, room, needed.value, byref(needed))
-        return list(room)[: needed.value]
+        """The items that a call stores. There is room for as many as it stored before, and then for as many as it asks for."""
+        rooms, call, size = self.rooms, getattr(self.calls, name), self.rooms.sizes.get(name, 1)
+        items = (kind * size)()
+        result = call(self.here, *arguments, items, size, rooms.needs)
+        if result == SMALL:
+            size = rooms.sizes[name] = rooms.needed.value
+            items = (kind * size)()
+            result = call(self.here, *arguments, items, size, rooms.needs)
+        self.answer(name, result)
+        return items[: rooms.needed.value]
 
     @property
     def player(self) -> int:
@@ -177,13 +215,35 @@ class Held:
         return self.items("rbg_scores", c_uint64)
 
     def names(self, kind: int) -> list[str]:
-        """The names of the players, the pieces or the variables."""
+        """The names of the players, the pieces, the variables or the directions."""
         found: list[str] = []
         while True:
             try:
                 found.append(bytes(self.items("rbg_name", c_uint8, kind, len(found))).decode())
             except Refused:
                 return found
+
+    def shape(self) -> Shape:
+        """The bounds, directions, edges and actions of the game."""
+        directions = self.names(DIRECTIONS)
+        edges, width = self.items("rbg_edges", c_uint32), len(directions)
+        return Shape(
+            bounds=self.items("rbg_bounds", c_uint32),
+            directions=directions,
+            edges=[[None if to == NOWHERE else to for to in edges[at : at + width]] for at in range(0, len(edges), width or 1)],
+            actions=self.actions(),
+        )
+
+    def actions(self) -> list[tuple[str, list[int]]]:
+        """The kind of the action at each position, with the numbers of what it names."""
+        found: list[tuple[str, list[int]]] = []
+        kind = c_uint32()
+        while True:
+            try:
+                numbers = self.items("rbg_action", c_uint16, len(found) + 1, byref(kind))
+            except Refused:
+                return found
+            found.append((KINDS[kind.value], numbers))
 
     def count(self) -> int:
         """How many legal moves there are."""
@@ -192,15 +252,26 @@ class Held:
     def moves(self) -> dict[str, int]:
         """The legal moves, as in messages and in the order of their pairs, with their indices."""
         if self.found is None:
-            needed, handle, call = c_uint64(), byref(self.handle), self.library.calls.rbg_move
-            pairs, length = (c_uint32 * (2 * MOST_PAIRS))(), byref(needed)
-            of_bytes, listed = memoryview(pairs).cast("B"), []
-            for index in range(self.count()):
-                self.answer("rbg_move", call(handle, index, pairs, MOST_PAIRS, length))
-                listed.append((*spelt(of_bytes[: 8 * needed.value].tobytes()), index))
-            listed.sort()
-            self.found = {text: index for _, text, index in listed}
+            numbers, at = self.numbers(), 0
+            listed: list[tuple[bytes, str]] = []
+            total, add = len(numbers), listed.append
+            while at < total:
+                end = at + 4 + 8 * numbers[at]  # a move has at most 200 pairs: the first byte is their number
+                add(spelt(numbers[at + 4 : end]))
+                at = end
+            order = sorted(range(len(listed)), key=listed.__getitem__)
+            self.found = {listed[index][1]: index for index in order}
         return self.found
+
+    def numbers(self) -> bytes:
+        """The legal moves as numbers of four bytes: of each how many pairs it has, and these."""
+        rooms, call = self.rooms, self.calls.rbg_moves
+        result = call(self.here, rooms.numbers, rooms.room, rooms.needs)
+        if result == SMALL:
+            rooms.widen(rooms.needed.value)
+            result = call(self.here, rooms.numbers, rooms.room, rooms.needs)
+        self.answer("rbg_moves", result)
+        return rooms.of_bytes[: 4 * rooms.needed.value].tobytes()
 
     def make(self, move: str) -> None:
         """Makes a move, and the keeper's moves after it."""
@@ -222,8 +293,8 @@ class Held:
 
     def copy(self) -> "Held":
         """A copy, from which no move can be undone."""
-        copy = Held(self.library)
-        self.ask("rbg_copy", byref(copy.handle))
+        copy = Held(self.library, self.rooms)
+        self.ask("rbg_copy", copy.here)
         return copy
 
     def pack(self) -> bytes:
@@ -232,8 +303,8 @@ class Held:
 
     def unpack(self, packed: bytes) -> "Held":
         """The state at the place of these bytes in this game, from which no move can be undone."""
-        to = Held(self.library)
-        self.ask("rbg_unpack", array_of(packed), len(packed), byref(to.handle))
+        to = Held(self.library, self.rooms)
+        self.ask("rbg_unpack", array_of(packed), len(packed), to.here)
         return to
 
     def playouts(self, seed: int, count: int) -> list[list[int]]:
@@ -243,11 +314,11 @@ class Held:
             raise Refused("form")
         room = min(count, 64) * width
         rows = (c_uint64 * room)()
-        result = self.library.calls.rbg_playouts(byref(self.handle), seed, count, rows, room, byref(needed))
+        result = self.calls.rbg_playouts(self.here, seed, count, rows, room, byref(needed))
         if result == SMALL:
             room = needed.value
             rows = (c_uint64 * room)()
-            result = self.library.calls.rbg_playouts(byref(self.handle), seed, count, rows, room, byref(needed))
+            result = self.calls.rbg_playouts(self.here, seed, count, rows, room, byref(needed))
         self.answer("rbg_playouts", result)
         return [list(rows[at : at + width]) for at in range(0, needed.value, width)]
 

@@ -17,7 +17,7 @@
 from typing import Optional
 
 from rbg.library import PIECES, PLAYERS, VARIABLES, Held, Library, find_library
-from rbg.places import Ending, Move, Place, Tried, tried
+from rbg.places import Ending, Move, Place, Shape, Tried, tried
 
 __all__ = ["LoadedGround", "LoadedPlace", "find_library"]
 
@@ -36,6 +36,10 @@ class LoadedGround:
     def names(self) -> list[list[str]]:
         """The names of the players, the pieces and the variables."""
         return [self.held.names(kind) for kind in (PLAYERS, PIECES, VARIABLES)]
+
+    def shape(self) -> Shape:
+        """The bounds, directions, edges and actions."""
+        return self.held.shape()
 
     def hear(self, move: Move) -> None:
         """Follows a move as a referee passes it on."""

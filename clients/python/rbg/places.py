@@ -32,6 +32,16 @@ class Place(NamedTuple):
     values: list[int]
 
 
+class Shape(NamedTuple):
+    """What a game is beside its names: the greatest number of each variable, the directions, where each of them leads from each
+    vertex, and at each position of the rules, from 1, the kind of the action and the numbers of what it names."""
+
+    bounds: list[int]
+    directions: list[str]
+    edges: list[list[Optional[int]]]
+    actions: list[tuple[str, list[int]]]
+
+
 def tried(move: Move, scores: Optional[list[int]], endings: list[Ending], players: int) -> Tried:
     """What became of a move: play is over there with these scores, or matches after it ended so.
 

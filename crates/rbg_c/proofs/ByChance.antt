@@ -2,8 +2,8 @@
 use Rattle.rbg_base.proofs.Common.{◌≡◌, ℕ, ◌+◌, ◌<◌, List, [], ◌∷◌, ◌++◌, length, true, false, Some, refl, sym, ap, ◌∙◌, subst, arith, Contains, length-append}
 use Rattle.std.specs.Prelude.{Option}
 use Rattle.rbg_rules.specs.Meaning.{AbstractGame, AbstractPlace, Finished}
-use Rattle.rbg_questions.specs.declared.refusal.Refusal.{Refusal}
-use Rattle.rbg_questions.specs.declared.refusal.Refusal.TheVariants.{Memory}
+use Rattle.rbg_questions.specs.declared.question_error.QuestionError.{QuestionError}
+use Rattle.rbg_questions.specs.declared.question_error.QuestionError.TheVariants.{Memory}
 use Rattle.rbg_questions.specs.Chance.{Plays, no_move, one_more, IsUnplayed, no_memory as no_room}
 use Rattle.rbg_questions.specs.Sessions.{Leads}
 use Rattle.rbg_c.specs.States.{AbstractState, FindsMoves, Makes, MakesFound, beginning_at, moved_to}
@@ -28,7 +28,7 @@ goes_here old mid new count index finds made =
     moved on
 
 -- or it isn't
-pub stuck_here : (old mid : AbstractState) (count index : ℕ) (refusal : Refusal) → FindsMoves old count mid → IsUnmadeAt mid index refusal → IsStuck old.game old.place refusal
+pub stuck_here : (old mid : AbstractState) (count index : ℕ) (refusal : QuestionError) → FindsMoves old count mid → IsUnmadeAt mid index refusal → IsStuck old.game old.place refusal
 stuck_here old mid count index refusal finds why = unmade (ap (λ (s : AbstractState). s.game) finds.is) (ap (λ (s : AbstractState). s.place) finds.is) why
 
 -- So many moves were made by chance.
@@ -82,7 +82,7 @@ all_made old now most made gone same = (
 )
 
 -- a move isn't made after the moves so far
-pub not_on : (old now : AbstractState) (made : ℕ) (refusal : Refusal) → GoneOn old made now → IsStuck now.game now.place refusal → IsNotPlayedOn old refusal
+pub not_on : (old now : AbstractState) (made : ℕ) (refusal : QuestionError) → GoneOn old made now → IsStuck now.game now.place refusal → IsNotPlayedOn old refusal
 not_on old now made refusal gone stuck = record {
   moves = gone.moves;
   to = now.place;
@@ -110,7 +110,7 @@ copy_played state copy played most made is plays before game origin =
           (subst (λ (s : AbstractState). PlaysOn s.game s.place most made played.place) is plays);
     }
 
-pub copy_stuck : (state copy : AbstractState) (refusal : Refusal) → copy ≡ beginning_at state.game state.origin state.place → IsNotPlayedOn copy refusal → IsNotPlayedOn state refusal
+pub copy_stuck : (state copy : AbstractState) (refusal : QuestionError) → copy ≡ beginning_at state.game state.origin state.place → IsNotPlayedOn copy refusal → IsNotPlayedOn state refusal
 copy_stuck state copy refusal is stuck =
     let it : IsNotPlayedOn (beginning_at state.game state.origin state.place) refusal = subst (λ (s : AbstractState). IsNotPlayedOn s refusal) is stuck in
     record { moves = it.moves; to = it.to; plays = it.plays; stuck = it.stuck }

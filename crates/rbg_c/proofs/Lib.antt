@@ -1,5 +1,4 @@
 mod Found
-mod Mixing
 mod Places
 mod Handles
 mod Kept
@@ -7,3 +6,5 @@ mod Values
 mod Filled
 mod ByChance
 mod Unmade
+mod Listed
+mod Shaped

@@ -1,6 +1,5 @@
 -- What becomes of a buffer of the caller.
 use Rattle.std.specs.Prelude.{◌≡◌, ℕ, ◌<◌, List, ◌++◌, length, drop, Option, None, Some}
-use Rattle.rbg_questions.specs.Packing.{packed_of}
 use Rattle.rbg_c.specs.States.{AbstractState}
 use Rattle.rbg_c.specs.Results.{ok, empty, memory, small}
 
@@ -41,20 +40,22 @@ pub data FetchesSome {X : Type 0}
         FillsSome (Is state) why old new needed result →
         FetchesSome Is why before after old new needed result
 
--- The bytes of the place of a state are put into a buffer.
---   packed: they are put, or they are too many.
+-- Items that need memory to be made are put into a buffer.
+--   made: they are put, or they are too many.
 --   no_room: memory ran out, and the buffer is as it was.
-pub data PacksAt (state : AbstractState) (before after : List ℕ) (needed result : ℕ) : Type 0 where
-  packed : Fills (packed_of state.place) before after needed result → PacksAt state before after needed result
-  no_room : after ≡ before → result ≡ memory → PacksAt state before after needed result
+pub data FillsMade {X : Type 0} (items before after : List X) (needed result : ℕ) : Type 0 where
+  made : Fills items before after needed result → FillsMade items before after needed result
+  no_room : after ≡ before → result ≡ memory → FillsMade items before after needed result
 
--- The same of the state of a handle.
---   no_state: there is none, and the buffer is as it was.
---   there: it is this one, and as before.
-pub data PacksFrom (before after : Option AbstractState) (old new : List ℕ) (needed result : ℕ) : Type 0 where
-  no_state : before ≡ None → after ≡ None → new ≡ old → result ≡ empty → PacksFrom before after old new needed result
-  there : {state : AbstractState} →
-      before ≡ Some state →
-      after ≡ Some state →
-      PacksAt state old new needed result →
-      PacksFrom before after old new needed result
+-- The same of items of the state of a handle.
+--   holds_nothing: there is no state, and the buffer is as it was.
+--   made_there: it is this one, and as before.
+pub data FetchesMade {X : Type 0} (items_of : AbstractState → List X) (before after : Option AbstractState) (old new : List X) (needed result : ℕ)
+    : Type 0
+  where
+    holds_nothing : before ≡ None → after ≡ None → new ≡ old → result ≡ empty → FetchesMade items_of before after old new needed result
+    made_there : {state : AbstractState} →
+        before ≡ Some state →
+        after ≡ Some state →
+        FillsMade (items_of state) old new needed result →
+        FetchesMade items_of before after old new needed result

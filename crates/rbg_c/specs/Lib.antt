@@ -7,6 +7,9 @@ pub mod Results
 pub mod Held
 pub mod Calls
 pub mod Opening
+pub mod Faults
 pub mod Filling
+pub mod Listing
 pub mod Names
+pub mod Shapes
 pub mod Playouts

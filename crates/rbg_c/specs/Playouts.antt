@@ -2,8 +2,8 @@
 use Rattle.std.specs.Prelude.{◌≡◌, ℕ, ◌<◌, ◌≤◌, List, [], ◌∷◌, length, Bool, true, false, Option, None, Some}
 use Rattle.std.specs.List.{flat_map}
 use Rattle.rbg_rules.specs.Meaning.{AbstractGame, AbstractPlace, Finished}
-use Rattle.rbg_questions.specs.declared.refusal.Refusal.{Refusal}
-use Rattle.rbg_questions.specs.declared.refusal.Refusal.TheVariants.{Memory}
+use Rattle.rbg_questions.specs.declared.question_error.QuestionError.{QuestionError}
+use Rattle.rbg_questions.specs.declared.question_error.QuestionError.TheVariants.{Memory}
 use Rattle.rbg_questions.specs.Chance.{AreTallied, Counted, IsUnplayed, Plays}
 use Rattle.rbg_questions.specs.Limits.{IsCount}
 use Rattle.rbg_questions.specs.internal.Places.{IsUnlisted}
@@ -79,16 +79,16 @@ pub record IsPlayedOn (state : AbstractState) (most : ℕ) (played : AbstractSta
 --   unlisted: the legal moves aren't listed there.
 --   unmade: one of them isn't made.
 --   no_memory: it says nothing of the place.
-pub data IsStuck (game : AbstractGame) (place : AbstractPlace) : Refusal → Type 0 where
-  unlisted : {refusal : Refusal} → IsUnlisted game place refusal → IsStuck game place refusal
-  unmade : {state : AbstractState} {index : ℕ} {refusal : Refusal} →
+pub data IsStuck (game : AbstractGame) (place : AbstractPlace) : QuestionError → Type 0 where
+  unlisted : {refusal : QuestionError} → IsUnlisted game place refusal → IsStuck game place refusal
+  unmade : {state : AbstractState} {index : ℕ} {refusal : QuestionError} →
       state.game ≡ game →
       state.place ≡ place →
       IsUnmadeAt state index refusal →
       IsStuck game place refusal
   no_memory : IsStuck game place Memory
 
-pub record IsNotPlayedOn (state : AbstractState) (refusal : Refusal) : Type 0 where
+pub record IsNotPlayedOn (state : AbstractState) (refusal : QuestionError) : Type 0 where
   pub moves : List (List (ℕ × ℕ))
   pub to : AbstractPlace
   pub plays : Plays state.game state.place moves to

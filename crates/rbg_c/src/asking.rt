@@ -1,8 +1,9 @@
 //! Calls that tell of a state. None of them changes it.
 ghost use Rattle.std.specs.Prelude.{◌≡◌, length, take};
 ghost use Rattle.rbg_questions.specs.Keys.{key_of};
+ghost use Rattle.rbg_questions.specs.Packing.{packed_of};
 ghost use Rattle.rbg_c.specs.Calls.{Tells};
-ghost use Rattle.rbg_c.specs.Filling.{Fetches, PacksFrom};
+ghost use Rattle.rbg_c.specs.Filling.{Fetches, FetchesMade};
 
 use crate::filling::{fill, fill_packed, fill_scores, fill_values};
 use crate::handle::Handle;
@@ -116,7 +117,8 @@ pub extern "C" fn rbg_pack(
     bytes: &mut [u8],
     needed: &mut u64,
 ) -> u32
-    ensures { PacksFrom state.old.value state.new.value bytes.old bytes.new needed.new result }
+    ensures { FetchesMade (λ told. packed_of told.place) state.old.value state.new.value
+        bytes.old bytes.new needed.new result }
 {
     let Some(held) = state.take(alloc) else {
         return EMPTY;

@@ -9,7 +9,7 @@ use crate::opening::keep;
 use crate::playouts::{play_rows, played_on};
 use crate::results::{EMPTY, RANGE, number};
 use crate::state::State;
-use rbg_questions::MAX_COUNT;
+use rbg_questions::{Draw, MAX_COUNT};
 use std::alloc::Global;
 
 /// `rbg_playouts`: plays so many matches by chance, and tells how they ended.
@@ -31,7 +31,7 @@ pub extern "C" fn rbg_playouts(
     let Some(mut held) = state.take(alloc) else {
         return EMPTY;
     };
-    match play_rows(alloc, &mut held, seed, count) {
+    match play_rows(alloc, &mut held, Draw { seed, count }) {
         Ok(found) => {
             state.put(held);
             fill(found.as_slice(), rows, needed)
@@ -66,7 +66,8 @@ pub extern "C" fn rbg_play_on(
     match from.take(alloc) {
         None => EMPTY,
         Some(state) => {
-            let result = play_copy(alloc, &state, to, seed, most, made);
+            let draw = Draw { seed, count: most };
+            let result = play_copy(alloc, &state, to, draw, made);
             from.put(state);
             result
         }
@@ -74,17 +75,10 @@ pub extern "C" fn rbg_play_on(
 }
 
 /// Keeps a copy on which moves are made by chance.
-fn play_copy(
-    alloc: Global,
-    state: &State,
-    to: &mut Handle,
-    seed: u64,
-    most: u64,
-    made: &mut u64,
-) -> u32
-    ensures { PlaysCopy (Some state.now) most to.old.value to.new.value made.new result }
+fn play_copy(alloc: Global, state: &State, to: &mut Handle, draw: Draw, made: &mut u64) -> u32
+    ensures { PlaysCopy (Some state.now) draw.count to.old.value to.new.value made.new result }
 {
-    match played_on(state, seed, most) {
+    match played_on(state, draw) {
         Ok(copy) => {
             *made = copy.moves_made() as u64;
             keep(alloc, copy, to)

@@ -1,6 +1,7 @@
 //! Buffers of the caller, and what is put into them.
 ghost use Rattle.std.specs.Prelude.{◌≡◌, ◌<◌, ◌≤◌, ◌^◌, ◌++◌, drop, length, take};
-ghost use Rattle.rbg_c.specs.Filling.{Fills, PacksAt};
+ghost use Rattle.rbg_questions.specs.Packing.{packed_of};
+ghost use Rattle.rbg_c.specs.Filling.{Fills, FillsMade};
 
 use crate::results::{MEMORY, OK, SMALL};
 use crate::state::State;
@@ -56,7 +57,7 @@ pub(crate) fn fill_scores(state: &State, buffer: &mut [u64], needed: &mut u64) -
 
 /// Puts the bytes of the place at the beginning of a buffer, if there is room, and tells how many they are.
 pub(crate) fn fill_packed(state: &State, buffer: &mut [u8], needed: &mut u64) -> u32
-    ensures { PacksAt state.now buffer.old buffer.new needed.new result }
+    ensures { FillsMade (packed_of state.now.place) buffer.old buffer.new needed.new result }
 {
     match state.pack() {
         Ok(packed) => fill(packed.as_slice(), buffer, needed),

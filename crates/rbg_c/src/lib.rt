@@ -3,9 +3,10 @@
 
 mod asking;
 mod chance;
+mod faults;
 mod filling;
 mod handle;
-mod keys;
+mod listing;
 mod loose;
 mod naming;
 mod opening;
@@ -13,8 +14,8 @@ mod pairs;
 mod playing;
 mod playouts;
 mod results;
+mod shape;
 mod state;
-mod stepping;
 
 pub use handle::Handle;
 pub use pairs::ModifierPair;

@@ -9,11 +9,11 @@ use crate::filling::fill;
 use crate::handle::Handle;
 use crate::results::{EMPTY, RANGE};
 use crate::state::State;
-use rbg_base::{Piece, Player, Variable};
+use rbg_base::{Direction, Piece, Player, Variable};
 use rbg_rules::Game;
 use std::alloc::Global;
 
-/// `rbg_name`: the name of a player, a piece or a variable.
+/// `rbg_name`: the name of a player, a piece, a variable or a direction.
 #[unsafe(no_mangle)]
 pub extern "C" fn rbg_name(
     alloc: Global,
@@ -45,7 +45,7 @@ fn fill_name(state: &State, kind: u32, index: u64, name: &mut [u8], needed: &mut
     }
 }
 
-/// The name of this kind and index: of a player, a piece or a variable.
+/// The name of this kind and index: of a player, a piece, a variable or a direction.
 fn name_of(game: &Game, kind: u32, index: u64) -> Option<&str>
     ensures { MatchOption result (slice_get (names_of kind game.now) index ≡ None)
         (λ name. slice_get (names_of kind game.now) index ≡ Some name.now) }
@@ -54,6 +54,7 @@ fn name_of(game: &Game, kind: u32, index: u64) -> Option<&str>
         0 => player_at(game, index),
         1 => piece_at(game, index),
         2 => variable_at(game, index),
+        3 => direction_at(game, index),
         _ => None,
     }
 }
@@ -86,6 +87,17 @@ fn variable_at(game: &Game, index: u64) -> Option<&str>
 {
     if index < game.variables() as u64 {
         Some(game.variable_name(index as Variable))
+    } else {
+        None
+    }
+}
+
+fn direction_at(game: &Game, index: u64) -> Option<&str>
+    ensures { MatchOption result (slice_get game.now.directions index ≡ None)
+        (λ name. slice_get game.now.directions index ≡ Some name.now) }
+{
+    if index < game.directions() as u64 {
+        Some(game.direction_name(index as Direction))
     } else {
         None
     }

@@ -9,29 +9,28 @@ use crate::state::State;
 use rand_core::{Rng, SeedableRng};
 use rand_pcg::Pcg32;
 use rbg_base::Memory;
-use rbg_questions::{Ending, Refusal, Tally};
+use rbg_questions::{Draw, Ending, EndingTally, QuestionError};
 use std::alloc::Global;
 
 /// Plays so many matches by chance, and returns the rows of those that were finished.
 pub(crate) fn play_rows(
     alloc: Global,
     state: &mut State,
-    seed: u64,
-    count: u64,
-) -> Result<Vec<u64>, Refusal>
-    requires { IsCount count }
+    draw: Draw,
+) -> Result<Vec<u64>, QuestionError>
+    requires { IsCount draw.count }
     ensures played { IfOk result (λ rows.
-        ArePlayed state.old.game state.old.place count rows.items) }
+        ArePlayed state.old.game state.old.place draw.count rows.items) }
     ensures unplayed { IfErr result (IsUnplayed state.old.game state.old.place) }
     ensures kept { state.new ≡ state.old }
 {
-    let tallies = state.play_matches(seed, count)?;
+    let tallies = state.play_matches(draw)?;
     let rows = rows_of(alloc, tallies.as_slice())?;
     Ok(rows)
 }
 
 /// The rows of matches that were counted.
-fn rows_of(alloc: Global, tallies: &[Tally]) -> Result<Vec<u64>, Memory>
+fn rows_of(alloc: Global, tallies: &[EndingTally]) -> Result<Vec<u64>, Memory>
     ensures { IfOk result (λ rows.
         rows.items ≡ flat_map row_of (map counted_by tallies.now)) }
 {
@@ -43,7 +42,7 @@ fn rows_of(alloc: Global, tallies: &[Tally]) -> Result<Vec<u64>, Memory>
 }
 
 /// Appends the row of matches that ended alike.
-fn push_row(tally: &Tally, rows: &mut Vec<u64>) -> Result<(), Memory>
+fn push_row(tally: &EndingTally, rows: &mut Vec<u64>) -> Result<(), Memory>
     ensures { OnOk result (rows.new.items ≡ rows.old.items ++ row_of (counted_by tally.now)) }
 {
     match &tally.ending {
@@ -57,36 +56,36 @@ fn push_row(tally: &Tally, rows: &mut Vec<u64>) -> Result<(), Memory>
 }
 
 /// A copy of a state on which moves are made by chance, at most so many, until play is finished.
-pub(crate) fn played_on(state: &State, seed: u64, most: u64) -> Result<State, Refusal>
-    ensures played { IfOk result (IsPlayedOn state.now most) }
+pub(crate) fn played_on(state: &State, draw: Draw) -> Result<State, QuestionError>
+    ensures played { IfOk result (IsPlayedOn state.now draw.count) }
     ensures stuck { IfErr result (IsNotPlayedOn state.now) }
 {
     let mut copy = state.try_clone()?;
-    let _made = play_on(&mut copy, seed, most)?;
+    let _made = play_on(&mut copy, draw)?;
     Ok(copy)
 }
 
 /// Makes moves by chance, at most so many, until play is finished. Returns how many.
-fn play_on(state: &mut State, seed: u64, most: u64) -> Result<u64, Refusal>
+fn play_on(state: &mut State, draw: Draw) -> Result<u64, QuestionError>
     ensures plays { IfOk result (λ made.
-        PlaysOn state.old.game state.old.place most made state.new.place) }
+        PlaysOn state.old.game state.old.place draw.count made state.new.place) }
     ensures before { IfOk result (λ made.
         length state.new.before ≡ length state.old.before + made) }
     ensures game { OnOk result (state.new.game ≡ state.old.game) }
     ensures origin { OnOk result (state.new.origin ≡ state.old.origin) }
     ensures stuck { IfErr result (IsNotPlayedOn state.old) }
 {
-    let mut chance = Pcg32::seed_from_u64(seed);
-    for made in 0..most {
+    let mut chance = Pcg32::seed_from_u64(draw.seed);
+    for made in 0..draw.count {
         if !make_one(state, &mut chance)? {
             return Ok(made);
         }
     }
-    Ok(most)
+    Ok(draw.count)
 }
 
 /// Makes a move by chance. False where there is no legal one.
-fn make_one(state: &mut State, chance: &mut Pcg32) -> Result<bool, Refusal>
+fn make_one(state: &mut State, chance: &mut Pcg32) -> Result<bool, QuestionError>
     ensures goes { IfOk result (λ moved. GoesOn state.old moved state.new) }
     ensures stuck { IfErr result (IsStuck state.old.game state.old.place) }
 {

@@ -1,5 +1,5 @@
 -- Moves are made on a copy, or one isn't made, or there was no memory.
-use Rattle.rbg_questions.specs.declared.refusal.Refusal.TheVariants.{Memory}
+use Rattle.rbg_questions.specs.declared.question_error.QuestionError.TheVariants.{Memory}
 use Rattle.rbg_base.proofs.Errors.{passed_on}
 use Rattle.rbg_c.proofs.ByChance.{copy_played, copy_stuck, no_copy}
 use Rattle.rbg_c.proofs.playouts.played_on.Goals as goal

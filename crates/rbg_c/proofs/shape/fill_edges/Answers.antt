@@ -1,0 +1,7 @@
+-- The edges are put, or there was no memory.
+use Rattle.std.proofs.Common.{◌∙◌}
+use Rattle.rbg_c.specs.Filling.FillsMade.{made}
+use Rattle.rbg_c.proofs.shape.fill_edges.Goals as goal
+
+pub returns-in-Ok : goal.returns-in-Ok
+returns-in-Ok c = made (rw (c.as_slice.ensures.value ∙ c.in-Ok.ensures) at c.fill.ensures)
