@@ -5,8 +5,8 @@ ghost use Rattle.rbg_position.specs.declared.key_mark.KeyMark.{KeyMark};
 ghost use Rattle.rbg_position.specs.internal.Marks.{action_key, arithmetic_key, on_key};
 
 use crate::key_mark::{KeyMark, put};
-use rbg_base::{Memory, Piece, Position};
-use rbg_rules::{Action, Arithmetic, Operation, Operator, Rule};
+use rbg_base::{Memory, Piece};
+use rbg_rules::{Action, Arithmetic, Operation, Operator};
 
 /// Appends the key of arithmetic.
 #[cycle(arithmetic)]

@@ -1,6 +1,6 @@
 //! The rest of the rules after an action.
 ghost use Rattle.std.specs.Prelude.{◌≡◌, ◌++◌, IfOk, OnOk, false, map, true};
-ghost use Rattle.rbg_rules.specs.Meaning.{AbstractAction, Expression, act, act_of, action_at, choice_of, expression_of, sequence_of};
+ghost use Rattle.rbg_rules.specs.Meaning.{AbstractAction, act, act_of, action_at, choice_of, expression_of, sequence_of};
 ghost use Rattle.rbg_position.specs.internal.RestParts.{AppendsRest, parts_of};
 
 use crate::rule_keys::find_action;
