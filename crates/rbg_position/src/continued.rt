@@ -229,9 +229,7 @@ fn goes_on(
     ensures { IfOk result (λ alike. IsTrue alike →
         HaveSameRest here.game.now here.place.now there.game.now there.place.now (number_in numbers.now)) }
 {
-    let new = here.game.as_game();
-    let old = there.game.as_game();
-    if !same_states(new.variables(), here.place, there.place) {
+    if !same_states(here.game.as_game().variables(), here.place, there.place) {
         return Ok(false);
     }
     let Some(first) = here.place.after else {
@@ -240,15 +238,17 @@ fn goes_on(
     let Some(last) = there.place.after else {
         return Ok(false);
     };
-    let first = LastAction {
-        rules: new.rules(),
+    let new_rules = here.game.as_game().rules();
+    let old_rules = there.game.as_game().rules();
+    let new = LastAction {
+        rules: new_rules,
         position: first,
     };
-    let last = LastAction {
-        rules: old.rules(),
+    let old = LastAction {
+        rules: old_rules,
         position: last,
     };
-    same_rest(alloc, first, last, numbers)
+    same_rest(alloc, new, old, numbers)
 }
 
 /// Whether two places of games with `count` variables have the same semi-state.
