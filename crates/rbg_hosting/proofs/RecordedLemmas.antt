@@ -1,8 +1,11 @@
 -- A hall that was served, and whose records were handed to an archive.
-use Rattle.rbg_base.proofs.Common.{◌≡◌, ◌⊎◌, inl, inr, ℕ, zero, suc, ◌+◌, ◌<◌, Bool, true, false, List, [], ◌∷◌, ◌++◌, Result, Ok, Err, OnOk, OnErr, map, replicate, slice_get, slice_index_or, sym, ap, ◌∙◌, refl, subst, map-append, get_or-replicate}
+use Rattle.rbg_base.proofs.Common.{◌≡◌, ◌⊎◌, inl, inr, ℕ, zero, suc, ◌+◌, ◌<◌, Bool, true, false, List, [], ◌∷◌, ◌++◌, Result, Ok, Err, OnOk, OnErr, map, replicate, slice_get, slice_index_or, sym, ap, ◌∙◌, refl, subst, map-append, append-nil, append_assoc, get_or-replicate}
 use Rattle.rbg_match.specs.Inputs.{AbstractEvent}
 use Rattle.rbg_hall.proofs.Common.{AbstractHallEvent, AbstractTable, HallHears, HallState, HasRun, HeldHall, IsNewHall, begun_of, hall_event, hall_events, new_hall}
-use Rattle.rbg_hall.proofs.Wholes.{new_run, run_on}
+use Rattle.rbg_hall.proofs.Wholes.{run_on}
+use Rattle.rbg_hall.proofs.TableCommon.{lines_in_all}
+use Rattle.rbg_hall.proofs.Telling.{told_to-none}
+use Rattle.rbg_hall.specs.Halls as halls
 use Rattle.rbg_hall.specs.Serving.{has_ended}
 use Rattle.rbg_hall.specs.Tables.{new_table}
 use Rattle.rbg_network.specs.Archives.{Handed}
@@ -13,37 +16,39 @@ use Rattle.rbg_serving.specs.declared.served.ServeError.TheVariants.{Memory, Rou
 use Rattle.rbg_serving.specs.declared.served.Served.{Served}
 use Rattle.rbg_hosting.specs.Archives.{AreHandedOver, IsArchivedRun}
 use Rattle.rbg_hosting.specs.Archives.IsArchivedRun.{begins, hears}
+use Rattle.rbg_hosting.specs.Pasts.{BeginsWithPast}
+use Rattle.rbg_hosting.specs.Pasts.BeginsWithPast.{all}
 use Rattle.rbg_hosting.specs.Records.{HasEnded}
+use Rattle.rbg_hosting.specs.declared.fault.ServingFault.{ServingFault}
 use Rattle.rbg_hosting.specs.declared.recorded_hall.RecordedHall.{RecordedHall}
 use Rattle.rbg_hosting.specs.declared.recorder.Recorder.{Recorder}
-use Rattle.rbg_hosting.specs.internal.Recorded.{AreNoted, HandsOver, HasArchived, HasHanded, IsFresh, of_recorded, places}
+use Rattle.rbg_hosting.specs.internal.Recorded.{AreNoted, HandsOver, HasArchived, HasArchivedAfter, HasHeard, IsFresh, IsOfDevice, IsStopped, of_recorded, places}
+
+-- the events of what is heard after others, and of one more
+events_more : (earlier : List AbstractHallEvent) (heard : List Heard) (one : Heard) → (earlier ++ hall_events heard) ++ hall_event (event_of one) ∷ [] ≡ earlier ++ hall_events (heard ++ one ∷ [])
+events_more earlier heard one =
+    append_assoc earlier (hall_events heard) (hall_event (event_of one) ∷ [])
+    ∙ ap (λ events. earlier ++ events) (sym (map-append (λ (next : Heard). hall_event (event_of next)) heard (one ∷ [])))
 
 -- a hall that handles what is heard has run through it
-run_through : {W A : Type 0} {told : A → List Handed → Type 0} {starts : List AbstractTable} {lines : ℕ} {old : RecordedHall W A} {before : List (List ℕ)} {heard : List Heard} {new : RecordedHall W A} {queued : List (List ℕ)} {since : List Intake} →
-    HasRun starts [] old.hall.state before →
+run_through : {W A : Type 0} {told : A → List Handed → Type 0} {starts : List AbstractTable} {lines : ℕ} {old : RecordedHall W A} {before : List (List ℕ)} {heard : List Heard} {new : RecordedHall W A} {queued : List (List ℕ)} {since : List Intake} (earlier : List AbstractHallEvent) →
+    HasRun starts earlier old.hall.state before →
     Handles (of_recorded told) lines old before heard new queued since →
-    HasRun starts (hall_events heard) new.hall.state queued
-run_through run passing.nothing = run
-run_through {starts = starts} {new = new} {queued = queued} run (passing.more {heard} handles now one may step) =
-    subst (λ events. HasRun starts events new.hall.state queued) (sym (map-append (λ (one : Heard). hall_event (event_of one)) heard (one ∷ [])))
-    (run_on (run_through run handles) step.0)
+    HasRun starts (earlier ++ hall_events heard) new.hall.state queued
+run_through {starts = starts} {new = new} {queued = queued} earlier run passing.nothing =
+    subst (λ events. HasRun starts events new.hall.state queued) (sym (append-nil earlier)) run
+run_through {starts = starts} {new = new} {queued = queued} earlier run (passing.more {heard} handles now one may step) =
+    subst (λ events. HasRun starts events new.hall.state queued) (events_more earlier heard one)
+    (run_on (run_through earlier run handles) step.0)
 
--- a new hall that was served to its end
-pub ended_so : {W A : Type 0} {told : A → List Handed → Type 0} {starts : List AbstractTable} {rounds : ℕ} {before after : List Told} {moments : List ℕ} {old new : RecordedHall W A} {queued_before queued : List (List ℕ)} {served : Served} → IsNewHall starts old.hall queued_before → Serves (of_recorded told) rounds before after moments old new queued_before queued (Ok served) → HasEnded starts new.hall.state
-ended_so {starts = starts} {old = old} {queued_before = queued_before} {queued = queued} made serves = record {
-  events = hall_events serves.heard;
+-- a hall that was served to its end
+pub ended_so : {W A : Type 0} {told : A → List Handed → Type 0} {starts : List AbstractTable} {earlier : List AbstractHallEvent} {rounds : ℕ} {before after : List Told} {moments : List ℕ} {old new : RecordedHall W A} {queued_before queued : List (List ℕ)} {served : Served} → HasRun starts earlier old.hall.state queued_before → Serves (of_recorded told) rounds before after moments old new queued_before queued (Ok served) → HasEnded starts new.hall.state
+ended_so {earlier = earlier} {queued = queued} run serves = record {
+  events = earlier ++ hall_events serves.heard;
   queues = queued;
-  run = run_through (new_run starts old.hall queued_before made) serves.ends.0.handles;
+  run = run_through earlier run serves.ends.0.handles;
   over = serves.ends.1.over;
 }
-
--- What a recorder has done in a run of a hall that led to this state.
-record Archived {A : Type 0} (told : A → List Handed → Type 0) (starts : List AbstractTable) (matches : ℕ) (recorder : Recorder A) (events : List AbstractHallEvent) (state : HallState) (queues : List (List ℕ)) : Type 0 where
-  as_many : places recorder ≡ matches
-  noted : AreNoted recorder state.tables
-  handed : List Handed
-  has : HasHanded told recorder handed
-  run : IsArchivedRun starts matches events state queues handed
 
 -- no match of a new hall has ended
 pub unbegun : (starts : List AbstractTable) (index : ℕ) → has_ended (begun_of (slice_get (map (λ (start : AbstractTable). new_table start.game start.text start.config) starts) index)) ≡ false
@@ -52,8 +57,9 @@ unbegun [] (suc index) = refl
 unbegun (start ∷ starts) zero = refl
 unbegun (start ∷ starts) (suc index) = unbegun starts index
 
-archived_first : {W A : Type 0} {told : A → List Handed → Type 0} {starts : List AbstractTable} {hall : HeldHall W} {queues : List (List ℕ)} (recorder : Recorder A) → IsNewHall starts hall queues → IsFresh told recorder → Archived told starts (places recorder) recorder [] hall.state queues
-archived_first {starts = starts} {hall = hall} {queues = queues} recorder made fresh = record {
+-- a new hall has heard nothing
+pub heard_first : {W A : Type 0} {told : A → List Handed → Type 0} {starts : List AbstractTable} {hall : HeldHall W} {queues : List (List ℕ)} (recorder : Recorder A) → IsNewHall starts hall queues → IsFresh told recorder → HasHeard told starts (places recorder) recorder [] hall.state queues
+heard_first {starts = starts} {hall = hall} {queues = queues} recorder made fresh = record {
   as_many = refl;
   noted = subst (λ (state : HallState). AreNoted recorder state.tables) (sym made.is)
       (λ index within. ap (λ noted. slice_index_or noted index true) fresh.noted ∙ get_or-replicate (places recorder) index false true within ∙ sym (unbegun starts index));
@@ -63,49 +69,83 @@ archived_first {starts = starts} {hall = hall} {queues = queues} recorder made f
       (subst (λ all. IsArchivedRun starts (places recorder) [] (new_hall starts) all []) (sym made.queued) begins);
 }
 
-archived_on : {A : Type 0} {told : A → List Handed → Type 0} {starts : List AbstractTable} {matches : ℕ} {before after : Recorder A} {events : List AbstractHallEvent} {event : AbstractHallEvent} {old new : HallState} {queues queued : List (List ℕ)} →
-    Archived told starts matches before events old queues →
+-- it hears one more event
+pub heard_next : {A : Type 0} {told : A → List Handed → Type 0} {starts : List AbstractTable} {matches : ℕ} {before after : Recorder A} {events : List AbstractHallEvent} {event : AbstractHallEvent} {old new : HallState} {queues queued : List (List ℕ)} →
+    HasHeard told starts matches before events old queues →
     HallHears old event new queues queued →
     HandsOver told before after old.tables new.tables →
-    Archived told starts matches after (events ++ event ∷ []) new queued
-archived_on {old = old} {new = new} archived heard hands =
-    let next = hands.hands archived.noted archived.handed archived.has in
+    HasHeard told starts matches after (events ++ event ∷ []) new queued
+heard_next {old = old} {new = new} so_far heard hands =
+    let next = hands.hands so_far.noted so_far.handed so_far.has in
     record {
-      as_many = hands.as_many ∙ archived.as_many;
-      noted = hands.noted archived.noted;
-      handed = archived.handed ++ next.more;
+      as_many = hands.as_many ∙ so_far.as_many;
+      noted = hands.noted so_far.noted;
+      handed = so_far.handed ++ next.more;
       has = next.has;
-      run = hears archived.run heard (subst (λ n. AreHandedOver old.tables new.tables n next.more) archived.as_many next.are);
+      run = hears so_far.run heard (subst (λ n. AreHandedOver old.tables new.tables n next.more) so_far.as_many next.are);
     }
 
-archived_through : {W A : Type 0} {told : A → List Handed → Type 0} {starts : List AbstractTable} {matches lines : ℕ} {old : RecordedHall W A} {before : List (List ℕ)} {heard : List Heard} {new : RecordedHall W A} {queued : List (List ℕ)} {since : List Intake} →
-    Archived told starts matches old.recorder [] old.hall.state before →
+-- it hears all that is heard in a call
+heard_through : {W A : Type 0} {told : A → List Handed → Type 0} {starts : List AbstractTable} {matches lines : ℕ} {old : RecordedHall W A} {before : List (List ℕ)} {heard : List Heard} {new : RecordedHall W A} {queued : List (List ℕ)} {since : List Intake} (earlier : List AbstractHallEvent) →
+    HasHeard told starts matches old.recorder earlier old.hall.state before →
     Handles (of_recorded told) lines old before heard new queued since →
-    Archived told starts matches new.recorder (hall_events heard) new.hall.state queued
-archived_through archived passing.nothing = archived
-archived_through {told = told} {starts = starts} {matches = matches} {new = new} {queued = queued} archived (passing.more {heard} handles now one may step) =
-    subst (λ events. Archived told starts matches new.recorder events new.hall.state queued) (sym (map-append (λ (one : Heard). hall_event (event_of one)) heard (one ∷ [])))
-    (archived_on (archived_through archived handles) step.0 step.1)
+    HasHeard told starts matches new.recorder (earlier ++ hall_events heard) new.hall.state queued
+heard_through {told = told} {starts = starts} {matches = matches} {new = new} {queued = queued} earlier so_far passing.nothing =
+    subst (λ events. HasHeard told starts matches new.recorder events new.hall.state queued) (sym (append-nil earlier)) so_far
+heard_through {told = told} {starts = starts} {matches = matches} {new = new} {queued = queued} earlier so_far (passing.more {heard} handles now one may step) =
+    subst (λ events. HasHeard told starts matches new.recorder events new.hall.state queued) (events_more earlier heard one)
+    (heard_next (heard_through earlier so_far handles) step.0 step.1)
 
-has_archived : {A : Type 0} {told : A → List Handed → Type 0} {starts : List AbstractTable} {matches : ℕ} {recorder : Recorder A} {events : List AbstractHallEvent} {state : HallState} {queues : List (List ℕ)} → Archived told starts matches recorder events state queues → HasArchived told starts matches recorder state
-has_archived {events = events} {queues = queues} archived = record {
-  handed = archived.handed;
-  has = archived.has;
-  events = events;
-  queues = queues;
-  run = archived.run;
+-- the run of what was heard
+pub has_run : {starts : List AbstractTable} {matches : ℕ} {events : List AbstractHallEvent} {state : HallState} {queues : List (List ℕ)} {handed : List Handed} → IsArchivedRun starts matches events state queues handed → HasRun starts events state queues
+has_run begins = record { told = []; run = halls.none; queued = sym (told_to-none (replicate lines_in_all [])) }
+has_run (hears run heard are) = run_on (has_run run) heard
+
+-- what was handed over of it
+pub has_archived : {A : Type 0} {told : A → List Handed → Type 0} {starts : List AbstractTable} {matches : ℕ} {recorder : Recorder A} {events : List AbstractHallEvent} {state : HallState} {queues : List (List ℕ)} → HasHeard told starts matches recorder events state queues → HasArchived told starts matches events recorder state
+has_archived {queues = queues} so_far = record { handed = so_far.handed; has = so_far.has; queues = queues; run = so_far.run }
+
+-- what a recorder has done for a hall that was served to its end
+pub archived_so : {W A : Type 0} {told : A → List Handed → Type 0} {starts : List AbstractTable} {matches : ℕ} {earlier : List AbstractHallEvent} {rounds : ℕ} {before after : List Told} {moments : List ℕ} {old new : RecordedHall W A} {queued_before queued : List (List ℕ)} {served : Served} → HasHeard told starts matches old.recorder earlier old.hall.state queued_before → Serves (of_recorded told) rounds before after moments old new queued_before queued (Ok served) → HasArchivedAfter told starts matches earlier new.recorder new.hall.state
+archived_so {earlier = earlier} so_far serves = record {
+  later = hall_events serves.heard;
+  archived = has_archived (heard_through earlier so_far serves.ends.0.handles);
 }
 
--- what a recorder has done for a new hall that was served to its end
-pub archived_so : {W A : Type 0} {told : A → List Handed → Type 0} {starts : List AbstractTable} {rounds : ℕ} {before after : List Told} {moments : List ℕ} {old new : RecordedHall W A} {queued_before queued : List (List ℕ)} {served : Served} → IsNewHall starts old.hall queued_before → IsFresh told old.recorder → Serves (of_recorded told) rounds before after moments old new queued_before queued (Ok served) → HasArchived told starts (places old.recorder) new.recorder new.hall.state
-archived_so {old = old} made fresh serves = has_archived (archived_through (archived_first old.recorder made fresh) serves.ends.0.handles)
+-- how a hall stops that had this past, apart from why
+pub record StoppedSo {A : Type 0} (told : A → List Handed → Type 0) (starts : List AbstractTable) (matches : ℕ) (past : List AbstractHallEvent) (recorder : Recorder A) : Type 0 where
+  pub events : List AbstractHallEvent
+  pub begins : BeginsWithPast past events
+  pub state : HallState
+  pub archived : HasArchived told starts matches events recorder state
 
--- and for one that was served no more
-pub archived_until : {W A : Type 0} {told : A → List Handed → Type 0} {starts : List AbstractTable} {rounds : ℕ} {before after : List Told} {moments : List ℕ} {old new : RecordedHall W A} {queued_before queued : List (List ℕ)} (error : ServeError) → IsNewHall starts old.hall queued_before → IsFresh told old.recorder → Serves (of_recorded told) rounds before after moments old new queued_before queued (Err error) → (state : HallState) × HasArchived told starts (places old.recorder) new.recorder state
-archived_until {old = old} {new = new} Rounds made fresh serves =
-    (new.hall.state, has_archived (archived_through (archived_first old.recorder made fresh) serves.ends.0.handles))
-archived_until {told = told} {starts = starts} {old = old} {new = new} Memory made fresh serves =
+-- it stops, and this is why
+pub is_stopped : {A : Type 0} {told : A → List Handed → Type 0} {starts : List AbstractTable} {matches : ℕ} {past : List AbstractHallEvent} {recorder : Recorder A} (fault : ServingFault) → StoppedSo told starts matches past recorder → (recorder.lost ≡ true → IsOfDevice fault) → IsStopped told starts matches past recorder fault
+is_stopped fault so device = record { events = so.events; begins = so.begins; state = so.state; archived = so.archived; device = device }
+
+-- after all of its past, and nothing more
+pub unheard_so : {A : Type 0} {told : A → List Handed → Type 0} {starts : List AbstractTable} {matches : ℕ} {earlier : List AbstractHallEvent} {recorder : Recorder A} {state : HallState} {queues : List (List ℕ)} → HasHeard told starts matches recorder earlier state queues → StoppedSo told starts matches earlier recorder
+unheard_so {earlier = earlier} {state = state} so_far = record {
+  events = earlier;
+  begins = subst (λ events. BeginsWithPast earlier events) (append-nil earlier) (all []);
+  state = state;
+  archived = has_archived so_far;
+}
+
+-- after what was heard in a call
+heard_so : {A : Type 0} {told : A → List Handed → Type 0} {starts : List AbstractTable} {matches : ℕ} {earlier : List AbstractHallEvent} {recorder : Recorder A} {state : HallState} {queues : List (List ℕ)} (heard : List Heard) → HasHeard told starts matches recorder (earlier ++ hall_events heard) state queues → StoppedSo told starts matches earlier recorder
+heard_so {earlier = earlier} {state = state} heard so_far = record {
+  events = earlier ++ hall_events heard;
+  begins = all (hall_events heard);
+  state = state;
+  archived = has_archived so_far;
+}
+
+-- in a call that is served no more
+pub archived_until : {W A : Type 0} {told : A → List Handed → Type 0} {starts : List AbstractTable} {matches : ℕ} {earlier : List AbstractHallEvent} {rounds : ℕ} {before after : List Told} {moments : List ℕ} {old new : RecordedHall W A} {queued_before queued : List (List ℕ)} (error : ServeError) → HasHeard told starts matches old.recorder earlier old.hall.state queued_before → Serves (of_recorded told) rounds before after moments old new queued_before queued (Err error) → StoppedSo told starts matches earlier new.recorder
+archived_until {earlier = earlier} Rounds so_far serves = heard_so serves.heard (heard_through earlier so_far serves.ends.0.handles)
+archived_until {told = told} {starts = starts} {matches = matches} {earlier = earlier} {old = old} {new = new} Memory so_far serves =
     elim serves.ends.1 [
-      | inl lacks ↦ (lacks.state.hall.state, subst (λ (recorder : Recorder _). HasArchived told starts (places old.recorder) recorder lacks.state.hall.state) (sym lacks.lacks) (has_archived (archived_through (archived_first old.recorder made fresh) lacks.handles)))
-      | inr unheard ↦ (old.hall.state, subst (λ (one : RecordedHall _ _). HasArchived told starts (places old.recorder) one.recorder old.hall.state) (sym unheard.2) (has_archived (archived_first old.recorder made fresh)))
+      | inl lacks ↦ subst (λ (recorder : Recorder _). StoppedSo told starts matches earlier recorder) (sym lacks.lacks) (heard_so _ (heard_through earlier so_far lacks.handles))
+      | inr unheard ↦ subst (λ (one : RecordedHall _ _). StoppedSo told starts matches earlier one.recorder) (sym unheard.2) (unheard_so so_far)
     ]

@@ -2,4 +2,5 @@
 pub mod Loading
 pub mod Prepared
 pub mod Recorded
+pub mod Resuming
 pub mod Writing

@@ -10,10 +10,12 @@ ghost use Rattle.rbg_network.specs.Archives.{Handed};
 use crate::archive::begin_records;
 use crate::fault::ServingFault;
 use crate::joining::most_of;
+use crate::names::{names_in, tell_match_names};
+use crate::past::name_of;
 use crate::tables::tables_of;
 use crate::task::{Keeping, Serving};
 use rbg_hall::{Hall, HallError, HallOut, LINES, Table};
-use rbg_network::{Archive, Hosting, Network, News, StreamLine, gather};
+use rbg_network::{Archive, Hosting, Named, Network, News, StreamLine, begin_log, gather};
 use rbg_serving::Log;
 use std::alloc::{AllocError, Global};
 
@@ -48,10 +50,11 @@ pub(crate) fn prepare<N: Network, A: Archive>(
     let matches = tables.len();
     let players = players_of(tables.as_slice());
     let noted = places_for(alloc, archive, matches)?;
-    begin_records(archive, noted.len())?;
+    begin_records(archive, noted.len(), false)?;
     let (mut hall, out) = open_hall(alloc, tables)?;
-    keep_logs(alloc, network, &mut hall, matches, &serving.keeping)?;
+    keep_logs(alloc, network, &mut hall, descriptions, &serving.keeping)?;
     let lines = accept_lines(alloc, network, players, serving)?;
+    tell_names(network, matches, serving);
     let clock = network.start_clock()?;
     Ok(Prepared {
         hall,
@@ -64,7 +67,7 @@ pub(crate) fn prepare<N: Network, A: Archive>(
 }
 
 /// A place for each of so many matches, if their records are wanted. None was handed over.
-fn places_for<A: Archive>(
+pub(crate) fn places_for<A: Archive>(
     alloc: Global,
     archive: &A,
     matches: usize,
@@ -76,7 +79,10 @@ fn places_for<A: Archive>(
 }
 
 /// A new hall of these tables.
-fn open_hall<W: Log>(alloc: Global, tables: Vec<Table>) -> Result<(Hall<W>, HallOut), ServingFault>
+pub(crate) fn open_hall<W: Log>(
+    alloc: Global,
+    tables: Vec<Table>,
+) -> Result<(Hall<W>, HallOut), ServingFault>
     requires { AreLoaded tables.items }
     ensures { IfOk result (λ made. IsNewHall (starts_of tables.items) made.0 made.1) }
 {
@@ -88,13 +94,13 @@ fn open_hall<W: Log>(alloc: Global, tables: Vec<Table>) -> Result<(Hall<W>, Hall
     }
 }
 
-/// Begins the logs of that many matches, if they are wanted: each is a new file with the name given, a point and the
-/// match's number.
+/// Begins the logs of the descriptions' matches, if they are wanted: each is a new file with the name given, a point and the
+/// match's number, which has a game file beside it.
 fn keep_logs<N: Network>(
     alloc: Global,
     network: &mut N,
     hall: &mut Hall<N::Log>,
-    tables: usize,
+    descriptions: &[Vec<u8>],
     keeping: &Keeping<'_>,
 ) -> Result<(), ServingFault>
     ensures state { hall.new.state ≡ hall.old.state }
@@ -103,12 +109,27 @@ fn keep_logs<N: Network>(
     let Some(name) = keeping.log else {
         return Ok(());
     };
-    for index in 0..tables {
-        let table = index as u64 + 1;
-        let file = format!(in alloc; "{name}.{table}")?;
-        hall.keep(table, network.create_log(file.as_str(), keeping.sync)?);
+    for (index, description) in descriptions.iter().enumerate() {
+        let number = index as u64 + 1;
+        let log = name_of(alloc, name, number)?;
+        let named = Named {
+            description: description.as_slice(),
+            names: names_in(keeping.names, index),
+        };
+        hall.keep(
+            number,
+            begin_log(alloc, network, log.as_str(), keeping.sync, named)?,
+        );
     }
     Ok(())
+}
+
+/// Tells who sits where in each of so many matches, as far as the organiser says.
+fn tell_names<N: Network>(network: &mut N, matches: usize, serving: &Serving<'_>) {
+    for index in 0..matches {
+        let names = names_in(serving.keeping.names, index);
+        tell_match_names(network, serving.hosting, index as u64 + 1, names);
+    }
 }
 
 /// How many players the tables have together.

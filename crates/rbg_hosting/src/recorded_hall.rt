@@ -1,11 +1,14 @@
 //! A hall that hands the record of each match to an archive when the match ends, and whose time may be bounded.
-ghost use Rattle.std.specs.Prelude.{◌≡◌, ◌⊎◌, true};
+ghost use Rattle.std.specs.Prelude.{◌≡◌, ◌⊎◌, true, OnErr, OnOk};
+ghost use Rattle.rbg_hall.specs.Events.{event_of};
+ghost use Rattle.rbg_hall.specs.Hearing.{HallHears};
 ghost use Rattle.rbg_hosting.specs.declared.fault.ServingFault.{ServingFault};
+ghost use Rattle.rbg_hosting.specs.internal.Recorded.{HandsOver};
 
 use crate::ServingFault;
 use crate::recorder::Recorder;
 use rbg_base::Memory;
-use rbg_hall::{Hall, HallOut};
+use rbg_hall::{Hall, HallEvent, HallOut};
 use rbg_match::Event;
 use rbg_network::Archive;
 use rbg_serving::{Engine, Log, ServeError};
@@ -54,6 +57,18 @@ impl<W: Log, A: Archive> RecordedHall<W, A> {
         self.recorder.has_lost()
     }
 
+    /// Hears an event of the past, at whatever moment, and hands over what is to be handed over then.
+    pub(crate) fn hear(&mut self, event: HallEvent<'_>, out: &mut HallOut) -> Result<(), Memory>
+        ensures hears { OnOk result (HallHears self.old.hall.state (event_of event.entry) self.new.hall.state out.old out.new
+            × HandsOver A.handed self.old.recorder self.new.recorder
+            self.old.hall.state.tables self.new.hall.state.tables) }
+        ensures stops { OnErr result (self.new.recorder ≡ self.old.recorder) }
+    {
+        self.hall.step(event, out)?;
+        self.recorder.hand_over(&self.hall);
+        Ok(())
+    }
+
     /// The archive that was handed the records.
     pub(crate) fn into_archive(self) -> A
         ensures { result ≡ self.recorder.archive }
@@ -75,6 +90,17 @@ impl<W: Log, A: Archive> RecordedHall<W, A> {
         match error {
             ServeError::Rounds => ServingFault::Rounds,
             ServeError::Memory => self.fault_of_memory(),
+        }
+    }
+
+    /// Why it is served no more where this fault is known. A record that is lost comes before it.
+    pub(crate) fn fault_after(&self, fault: ServingFault) -> ServingFault
+        ensures { self.now.recorder.lost ≡ true → result ≡ ServingFault.Device }
+    {
+        if self.has_lost() {
+            ServingFault::Device
+        } else {
+            fault
         }
     }
 

@@ -1,13 +1,14 @@
 //! A hall over connections: its players are waited for, its matches are played at once, and their records are given.
 ghost use Rattle.std.specs.Prelude.{◌≡◌, ◌≤◌, ℕ, Bool, [], List, length, IfOk, OnOk};
 ghost use Rattle.rbg_hall.specs.Halls.{AbstractTable, begun_at};
-ghost use Rattle.rbg_hall.specs.Openings.{IsNewHall};
+ghost use Rattle.rbg_hall.specs.Events.{AbstractHallEvent};
 ghost use Rattle.rbg_hall.specs.TableLimits.{lines_in_all};
+ghost use Rattle.rbg_hall.specs.Wholes.{HasRun};
 ghost use Rattle.rbg_hosting.specs.Records.{AreHallsRecords, ArePrintedMatches, HasEnded};
 ghost use Rattle.rbg_hosting.specs.Served.{HasOutcome, status_for};
 ghost use Rattle.rbg_hosting.specs.Tables.{texts_of};
 ghost use Rattle.rbg_hosting.specs.internal.Prepared.{IsPrepared};
-ghost use Rattle.rbg_hosting.specs.internal.Recorded.{AnswersRecords, AnswersServed, IsFresh, PrintsRecords, RunEnds};
+ghost use Rattle.rbg_hosting.specs.internal.Recorded.{AnswersRecords, AnswersServed, HasHeard, PrintsRecords, RunEnds};
 ghost use Rattle.rbg_hosting.specs.internal.Writing.{AppendsMatch, AppendsRecord};
 ghost use Rattle.rbg_match.specs.Matches.{HasHistory};
 ghost use Rattle.rbg_match.specs.declared.config.Config.{Config};
@@ -20,10 +21,11 @@ use crate::task::{Keeping, Serving};
 use rbg_console::Status;
 use rbg_hall::{Hall, HallOut};
 use rbg_match::Match;
-use rbg_network::{Archive, Hosting, Network, News, StreamLine};
+use rbg_network::{Archive, Hosting, MatchNews, Network, News, StreamLine};
 use rbg_record::write_record;
 use rbg_referee::Answer;
 use rbg_serving::{Clock, Log, serve_engine};
+use rbg_wire::Outcome;
 use std::alloc::{AllocError, Global};
 use std::io::{Read, Write};
 
@@ -40,7 +42,7 @@ pub fn serve_hall<N: Network, A: Archive>(
     ensures printed { IfOk result.0 (λ answer.
         AreHallsRecords serving.now.config (texts_of descriptions.now) answer.text.items) }
     ensures archived { A.handed archive [] → HasOutcome A.handed serving.now.config (texts_of descriptions.now)
-        (A.wants archive) result.1 result.0 }
+        [] (A.wants archive) result.1 result.0 }
 {
     let mut archive = archive;
     match prepare(alloc, descriptions, network, serving, &mut archive) {
@@ -65,7 +67,7 @@ fn play<N: Network, A: Archive>(
     ensures archived { (config : Config) (descriptions : List (List ℕ)) (wants : Bool) →
         IsPrepared config descriptions wants prepared.hall prepared.out prepared.matches prepared.noted.items →
         A.handed archive [] →
-        HasOutcome A.handed config descriptions wants result.1 result.0 }
+        HasOutcome A.handed config descriptions [] wants result.1 result.0 }
 {
     let Prepared {
         hall,
@@ -76,7 +78,7 @@ fn play<N: Network, A: Archive>(
         noted,
     } = prepared;
     let recorder = Recorder::new(archive, noted);
-    let mut recorded = RecordedHall::new(hall, recorder, end_of(&serving.keeping));
+    let mut recorded = RecordedHall::new(hall, recorder, end_of(&serving.keeping, 0));
     let served = run_hall(
         alloc,
         &mut recorded,
@@ -86,20 +88,21 @@ fn play<N: Network, A: Archive>(
         rounds_of(serving),
     );
     tell_stalled(network, serving.hosting, lines.as_slice());
+    tell_ends(network, recorded.hall(), matches, &served, serving);
     let answer = answer_of(alloc, &recorded, matches, served);
     (answer, recorded.into_archive())
 }
 
-/// The moment at which the time for the matches is over, if it is bounded.
-fn end_of(keeping: &Keeping<'_>) -> Option<u64> {
+/// The moment at which the time for the matches is over that are served from this one on, if it is bounded.
+pub(crate) fn end_of(keeping: &Keeping<'_>, since: u64) -> Option<u64> {
     match keeping.minutes {
-        Some(minutes) => Some(minutes.saturating_mul(60_000)),
+        Some(minutes) => Some(since.saturating_add(minutes.saturating_mul(60_000))),
         None => None,
     }
 }
 
 /// The most rounds. With a bound on the time they aren't counted.
-fn rounds_of(serving: &Serving<'_>) -> u64 {
+pub(crate) fn rounds_of(serving: &Serving<'_>) -> u64 {
     match serving.keeping.minutes {
         Some(_) => u64::MAX,
         None => serving.rounds,
@@ -107,7 +110,7 @@ fn rounds_of(serving: &Serving<'_>) -> u64 {
 }
 
 /// Serves the matches over the lines until all have ended.
-fn run_hall<S: Read + Write + Drop, C: Clock, W: Log, A: Archive>(
+pub(crate) fn run_hall<S: Read + Write + Drop, C: Clock, W: Log, A: Archive>(
     alloc: Global,
     recorded: &mut RecordedHall<W, A>,
     lines: &mut [StreamLine<S>],
@@ -117,13 +120,12 @@ fn run_hall<S: Read + Write + Drop, C: Clock, W: Log, A: Archive>(
 ) -> Result<(), ServingFault>
     requires lines { length lines.old ≤ lines_in_all }
     requires clock { C.told clock.old [] }
-    ensures ended { OnOk result ((starts : List AbstractTable) →
-        IsNewHall starts recorded.old.hall out.old →
+    ensures ended { OnOk result ((starts : List AbstractTable) (earlier : List AbstractHallEvent) →
+        HasRun starts earlier recorded.old.hall.state out.old →
         HasEnded starts recorded.new.hall.state) }
-    ensures archived { (starts : List AbstractTable) →
-        IsNewHall starts recorded.old.hall out.old →
-        IsFresh A.handed recorded.old.recorder →
-        RunEnds A.handed starts recorded.old.recorder recorded.new result }
+    ensures archived { (starts : List AbstractTable) (matches : ℕ) (earlier : List AbstractHallEvent) →
+        HasHeard A.handed starts matches recorded.old.recorder earlier recorded.old.hall.state out.old →
+        RunEnds A.handed starts matches earlier recorded.new result }
 {
     // The outbox has a queue for each of a hall's lines.
     let _lines = out.lines();
@@ -134,7 +136,7 @@ fn run_hall<S: Read + Write + Drop, C: Clock, W: Log, A: Archive>(
 }
 
 /// What is answered where a hall with so many matches was served with this result.
-fn answer_of<W: Log, A: Archive>(
+pub(crate) fn answer_of<W: Log, A: Archive>(
     alloc: Global,
     recorded: &RecordedHall<W, A>,
     matches: usize,
@@ -176,8 +178,56 @@ fn status_of(lost: bool) -> Status
     }
 }
 
+/// Tells how each of so many matches ended, or that it did not end within its bound where this is the result.
+pub(crate) fn tell_ends<N: Network, W: Log>(
+    network: &mut N,
+    hall: &Hall<W>,
+    matches: usize,
+    served: &Result<(), ServingFault>,
+    serving: &Serving<'_>,
+) {
+    for index in 0..matches {
+        let number = index as u64 + 1;
+        if let Some(news) = end_news(hall, number, served, serving) {
+            serving
+                .hosting
+                .tell(network, &News::OfMatch { number, news });
+        }
+    }
+}
+
+/// The news of how the match of a number ended, or that it did not within its bound.
+fn end_news<W: Log>(
+    hall: &Hall<W>,
+    number: u64,
+    served: &Result<(), ServingFault>,
+    serving: &Serving<'_>,
+) -> Option<MatchNews<'static>> {
+    if let Some(outcome) = outcome_of(hall, number) {
+        return Some(MatchNews::Ended { outcome });
+    }
+    if !matches!(served, Err(ServingFault::Rounds)) {
+        return None;
+    }
+    match serving.keeping.minutes {
+        Some(minutes) => Some(MatchNews::OutOfTime { minutes }),
+        None => Some(MatchNews::Unfinished {
+            rounds: serving.rounds,
+        }),
+    }
+}
+
+/// The outcome of the match of a number, if it has ended.
+fn outcome_of<W: Log>(hall: &Hall<W>, number: u64) -> Option<Outcome> {
+    hall.begun(number)?.outcome()
+}
+
 /// Reports which connections took nothing of what was left for them after the end. Connections are numbered from 1.
-fn tell_stalled<N: Network>(network: &mut N, hosting: Hosting, lines: &[StreamLine<N::Stream>]) {
+pub(crate) fn tell_stalled<N: Network>(
+    network: &mut N,
+    hosting: Hosting,
+    lines: &[StreamLine<N::Stream>],
+) {
     for (index, line) in lines.iter().enumerate() {
         if line.has_stalled() {
             let connection = index.saturating_add(1);

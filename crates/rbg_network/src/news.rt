@@ -57,6 +57,10 @@ pub enum News<'a> {
 /// What an organiser is told of a match in a hall.
 #[derive(Clone, Copy)]
 pub enum MatchNews<'a> {
+    /// A player has connected, and has this seat.
+    Connected { seat: usize },
+    /// The connection of this seat was closed before the matches began. The seat is free again.
+    Left { seat: usize },
     /// All its seats are taken.
     Begins,
     /// It goes on from its log, and waits for its players again.
@@ -132,6 +136,8 @@ impl fmt::Display for News<'_> {
 /// What is told of a match, after its number.
 fn write_of_match<W: fmt::Write>(f: &mut Formatter<W>, news: &MatchNews<'_>) -> fmt::Result {
     match news {
+        MatchNews::Connected { seat } => { write_number(f, ": seat ", *seat as u64, " connected") }
+        MatchNews::Left { seat } => write_number(f, ": seat ", *seat as u64, " left"),
         MatchNews::Begins => f.write_str(" begins"),
         MatchNews::GoesOn => f.write_str(" goes on"),
         MatchNews::Ended { outcome } => {
