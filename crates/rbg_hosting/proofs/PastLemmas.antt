@@ -15,10 +15,10 @@ use Rattle.rbg_serving.specs.Cutting.{AreWholeLines}
 use Rattle.rbg_wire.specs.Messages.{join_message, spelling}
 use Rattle.rbg_script.specs.declared.event.ScriptEvent.{ScriptEvent}
 use Rattle.rbg_script.specs.declared.script.Script.{Script}
-use Rattle.rbg_hosting.specs.Pasts.{AreLogs, BeginsWithPast, HasConfig, IsLogOf, config_from, past_from, past_of, script_from, sent_by_each}
+use Rattle.rbg_hosting.specs.Moments.HearsPast.{part}
+use Rattle.rbg_hosting.specs.Pasts.{AreLogs, HasConfig, IsLogOf, config_from, past_from, past_of, script_from, sent_by_each}
 use Rattle.rbg_hosting.specs.Pasts.IsLogOf.{begun, not_begun}
 use Rattle.rbg_hosting.specs.Pasts.AreLogs.{no_log, one_more}
-use Rattle.rbg_hosting.specs.Pasts.BeginsWithPast.{part}
 use Rattle.rbg_hosting.specs.declared.past.Past.{Past}
 use Rattle.rbg_hosting.specs.declared.recorded_hall.RecordedHall.{RecordedHall}
 use Rattle.rbg_hosting.specs.declared.recorder.Recorder.{Recorder}
@@ -152,10 +152,10 @@ pub past_last : (number line : ℕ) (players : List ℕ) (pasts : List Past) (in
 past_last number line players pasts index few = ap (λ them. past_from number line (drop index players) (pasts_in them)) (drop_all index pasts few)
 
 -- a run that stopped within the past
-pub stopped_past : {A : Type 0} {told : A → List Handed → Type 0} {starts : List AbstractTable} {matches : ℕ} {recorder : Recorder A} {past : List AbstractHallEvent} → HasStopped told starts matches recorder [] past → StoppedSo told starts matches past recorder
+pub stopped_past : {A C : Type 0} {told : A → List Handed → Type 0} {clock_told : C → List ℕ → Type 0} {starts : List AbstractTable} {matches : ℕ} {recorder : Recorder A} {past : List AbstractHallEvent} → HasStopped told starts matches recorder [] past → StoppedSo told clock_told starts matches past recorder
 stopped_past stop = record {
   events = stop.heard;
-  begins = part stop.heard stop.left stop.parts;
+  hears = part stop.heard stop.left stop.parts;
   state = stop.state;
   archived = has_archived stop.is;
 }
@@ -246,11 +246,6 @@ config_more config pasts index past within is so_far one =
 -- a log with no whole line
 pub empty_log : (known : Option (List ℕ)) (bytes whole : List ℕ) → MayBe known bytes → AreWholeLines bytes whole → whole ≡ [] → IsLogOf known None
 empty_log known bytes whole may are empty = not_begun bytes may (subst (AreWholeLines bytes) empty are)
-
--- what is known of any bytes of a log is known of these
-pub known_log : {E : Type 0} (read : Result Past E) (known : Option (List ℕ)) (bytes slice : List ℕ) → slice ≡ bytes → MayBe known bytes → IfOk read (λ past. (any : Option (List ℕ)) → MayBe any slice → IsLogOf any (past_in_code past)) → IfOk read (λ past. IsLogOf known (past_in_code past))
-known_log (Ok past) known bytes slice same may is = is known (subst (MayBe known) (sym same) may)
-known_log (Err _) known bytes slice same may is = tt {0}
 
 -- a log of which the same is known
 pub same_log : (old new : List ℕ → Option (List ℕ)) (name log : List ℕ) (past : Past) → new name ≡ old name → log ≡ name → IsLogOf (new log) (past_in_code past) → IsLogOf (old name) (past_in_code past)

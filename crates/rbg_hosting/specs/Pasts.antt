@@ -99,13 +99,3 @@ players_of tables = map (λ (table : AbstractTable). seats_of table.game) tables
 -- what a hall with these tables hears of its logs
 abbrev pub past_in : List AbstractTable → List (Option AbstractScript) → List AbstractHallEvent
 past_in tables pasts = past_from 1 0 (players_of tables) pasts
-
--- How the events begin of a hall that had this to hear first, and was served no more.
---   all: it heard all of it, and then others.
---   part: it heard a front part of it.
-pub data BeginsWithPast (past : List AbstractHallEvent) : (events : List AbstractHallEvent) → Type 0 where
-  all : (later : List AbstractHallEvent)
-      → BeginsWithPast past (past ++ later)
-  part : (heard left : List AbstractHallEvent)
-      → past ≡ heard ++ left
-      → BeginsWithPast past heard

@@ -1,5 +1,6 @@
 -- Definitions that only this crate's proofs use.
 pub mod Loading
+pub mod Moments
 pub mod Prepared
 pub mod Recorded
 pub mod Resuming

@@ -1,15 +1,15 @@
 //! What the logs of a hall's matches hold.
-ghost use Rattle.std.specs.Prelude.{◌≡◌, ℕ, List, All, Option, length, string_bytes, IfOk, IsTrue};
+ghost use Rattle.std.specs.Prelude.{◌≡◌, ℕ, List, All, Option, length, option_map, string_bytes, IfOk, IsTrue};
 ghost use Rattle.rbg_console.specs.Files.{KeepsFiles, MayBe};
 ghost use Rattle.rbg_hosting.specs.Pasts.{AreLogs, HasConfig, IsLogOf, config_from, log_name};
-ghost use Rattle.rbg_hosting.specs.internal.Resuming.{LeadsTo, StandsSo, past_in_code, pasts_in};
+ghost use Rattle.rbg_hosting.specs.internal.Resuming.{past_in_code, pasts_in};
 ghost use Rattle.rbg_script.specs.Scripts.{script_of};
 
 use crate::ServingFault;
 use rbg_console::{Files, Input};
 use rbg_match::Config;
 use rbg_network::{Network, take_log};
-use rbg_referee::{config_of, play_script};
+use rbg_referee::config_of;
 use rbg_script::{Script, ScriptEvent, read_script};
 use rbg_serving::whole_lines;
 use std::alloc::{AllocError, Global};
@@ -17,26 +17,13 @@ use std::alloc::{AllocError, Global};
 /// What the log of a match of a hall holds.
 #[derive(Drop)]
 pub(crate) struct Past {
+    /// The name of the log.
+    pub(crate) log: String,
     /// Its script, if the match has begun.
     pub(crate) script: Option<Script>,
-    pub(crate) stand: Stand,
     /// Who sits where, if the log's game file says that.
     pub(crate) names: Option<String>,
 }
-
-/// Where a script leaves its match.
-#[derive(Clone, Copy)]
-pub(crate) struct Stand {
-    /// The last moment.
-    pub(crate) moment: u64,
-    pub(crate) has_ended: bool,
-}
-
-/// A match that hasn't begun.
-const NOT_BEGUN: Stand = Stand {
-    moment: 0,
-    has_ended: false,
-};
 
 /// The name of the log of a match.
 pub(crate) fn name_of(alloc: Global, name: &str, number: u64) -> Result<String, AllocError>
@@ -60,58 +47,46 @@ pub(crate) fn read_pasts<F: Files, N: Network>(
     let mut pasts = Vec::with_capacity(alloc, descriptions.len())?;
     for (index, description) in descriptions.iter().enumerate() {
         let log = name_of(alloc, name, index as u64 + 1)?;
-        let past = take_past(alloc, description.as_slice(), files, network, log.as_str())?;
+        let past = take_past(alloc, description.as_slice(), files, network, log)?;
         pasts.push(past)?;
     }
     Ok(pasts)
 }
 
-/// What a log holds of a match of this text. This process takes it.
+/// What the log of this name holds of a match of this text. This process takes it.
 fn take_past<F: Files, N: Network>(
     alloc: Global,
     text: &[u8],
     files: &mut F,
     network: &mut N,
-    log: &str,
+    log: String,
 ) -> Result<Past, ServingFault>
-    ensures log { IfOk result (λ past. IsLogOf (F.told files.old log.now) (past_in_code past)) }
-    ensures stands { IfOk result (λ past. StandsSo text.now (past_in_code past) past.stand) }
+    ensures log { IfOk result (λ past. IsLogOf (F.told files.old (string_bytes log)) (past_in_code past)) }
     ensures kept { KeepsFiles (F.told files.old) (F.told files.new) }
 {
-    let names = take_log(alloc, network, log, text)?;
-    match files.read_file(alloc, log, usize::MAX)? {
-        Input::Whole(bytes) => read_past(alloc, text, bytes.as_slice(), names),
+    let names = take_log(alloc, network, log.as_str(), text)?;
+    match files.read_file(alloc, log.as_str(), usize::MAX)? {
+        Input::Whole(bytes) => {
+            let script = script_in(alloc, bytes.as_slice())?;
+            Ok(Past { log, script, names })
+        }
         Input::TooLong => Err(ServingFault::Device),
         Input::Device => Err(ServingFault::Device),
     }
 }
 
-/// What these bytes of a log are of a match of this text. A last line that isn't whole is left out.
-fn read_past(
-    alloc: Global,
-    text: &[u8],
-    bytes: &[u8],
-    names: Option<String>,
-) -> Result<Past, ServingFault>
-    ensures log { IfOk result (λ past. (known : Option (List ℕ)) → MayBe known bytes.now → IsLogOf known (past_in_code past)) }
-    ensures stands { IfOk result (λ past. StandsSo text.now (past_in_code past) past.stand) }
+/// The script that these bytes of a log hold, if its match has begun. A last line that isn't whole is left out.
+fn script_in(alloc: Global, bytes: &[u8]) -> Result<Option<Script>, ServingFault>
+    ensures { IfOk result (λ script. (known : Option (List ℕ)) → MayBe known bytes.now →
+        IsLogOf known (option_map script_of script)) }
 {
     let lines = whole_lines(bytes);
     if lines.is_empty() {
-        return Ok(Past {
-            script: None,
-            stand: NOT_BEGUN,
-            names,
-        });
+        return Ok(None);
     }
     let script = read_script(alloc, lines)?;
     are_whole(script.events.as_slice())?;
-    let stand = stand_after(alloc, text, &script)?;
-    Ok(Past {
-        script: Some(script),
-        stand,
-        names,
-    })
+    Ok(Some(script))
 }
 
 /// Whether each message is whole, as in each log of a hall. If not, its line is not of its form.
@@ -131,17 +106,6 @@ fn is_whole(event: &ScriptEvent) -> bool {
         ScriptEvent::Ended { .. } => true,
         ScriptEvent::Tick { .. } => true,
     }
-}
-
-/// Where a script leaves a match of this text.
-fn stand_after(alloc: Global, text: &[u8], script: &Script) -> Result<Stand, ServingFault>
-    ensures { IfOk result (LeadsTo text.now (script_of script.now)) }
-{
-    let (played, _) = play_script(alloc, text, script)?;
-    Ok(Stand {
-        moment: played.moment(),
-        has_ended: played.outcome().is_some(),
-    })
 }
 
 /// The config of the matches that have begun, or this one, if none has. All have the same one.
@@ -179,15 +143,4 @@ fn has_config(past: &Past, config: Config) -> bool
         Some(script) => config_of(script.config) == config,
         None => true,
     }
-}
-
-/// The last moment of all matches.
-pub(crate) fn last_moment(pasts: &[Past]) -> u64 {
-    let mut last = 0;
-    for past in pasts {
-        if last < past.stand.moment {
-            last = past.stand.moment;
-        }
-    }
-    last
 }

@@ -26,9 +26,10 @@ pub(crate) fn replay_all<W: Log, A: Archive>(
     pasts: &[Past],
     players: &[u64],
 ) -> Result<(), ServingFault>
-    requires { length players.now ≡ length pasts.now }
-    ensures { HearsMore A.handed recorded.old recorded.new out.old out.new
+    requires { length pasts.now ≤ length players.now }
+    ensures hears { HearsMore A.handed recorded.old recorded.new out.old out.new
         (past_from 1 0 players.now (pasts_in pasts.now)) result }
+    ensures nothing { pasts.now ≡ [] → (recorded.new ≡ recorded.old) × (out.new ≡ out.old) }
 {
     let mut line: u64 = 0;
     for index in 0..pasts.len() {

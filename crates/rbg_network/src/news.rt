@@ -28,8 +28,6 @@ pub enum News<'a> {
     Ended { outcome: Outcome },
     /// The match has ended, and the connection of this seat took nothing of what was left for it.
     TookNothing { seat: usize },
-    /// The matches of a hall have ended, and this connection took nothing of what was left for it.
-    ConnectionTookNothing { connection: usize },
     /// The match did not end in this many rounds.
     Unfinished { rounds: u64 },
     /// The match did not end within this many minutes.
@@ -48,8 +46,6 @@ pub enum News<'a> {
     Lost { port: u16, error: ClientError },
     /// This process plays for this player.
     Plays { player: u64, name: &'a str },
-    /// A player has connected to a hall whose matches are played already, and has this connection.
-    Joined { connection: usize },
     /// News of the match of this number in a hall.
     OfMatch { number: u64, news: MatchNews<'a> },
 }
@@ -67,6 +63,8 @@ pub enum MatchNews<'a> {
     GoesOn,
     /// It has ended.
     Ended { outcome: Outcome },
+    /// All matches have ended, and the connection of this seat took nothing of what was left for it.
+    TookNothing { seat: usize },
     /// It did not end in this many rounds.
     Unfinished { rounds: u64 },
     /// It did not end within this many minutes.
@@ -94,12 +92,6 @@ impl fmt::Display for News<'_> {
             News::TookNothing { seat } => {
                 write_number(f, "seat ", *seat as u64, " took nothing for 10 seconds")
             }
-            News::ConnectionTookNothing { connection } => write_number(
-                f,
-                "connection ",
-                *connection as u64,
-                " took nothing for 10 seconds",
-            ),
             News::Unfinished { rounds } => {
                 write_count(f, *rounds, "match not ended within", "round")
             }
@@ -122,9 +114,6 @@ impl fmt::Display for News<'_> {
             }
             News::Lost { port, error } => write_failure(f, *error, "port ", u64::from(*port), ""),
             News::Plays { player, name } => write_name(f, "plays", name, *player),
-            News::Joined { connection } => {
-                write_number(f, "connection ", *connection as u64, " connected")
-            }
             News::OfMatch { number, news } => {
                 write_number(f, "match ", *number, "")?;
                 write_of_match(f, news)
@@ -144,6 +133,12 @@ fn write_of_match<W: fmt::Write>(f: &mut Formatter<W>, news: &MatchNews<'_>) -> 
             f.write_str(" ended: ")?;
             write_outcome(f, outcome)
         }
+        MatchNews::TookNothing { seat } => write_number(
+            f,
+            ": seat ",
+            *seat as u64,
+            " took nothing for 10 seconds",
+        ),
         MatchNews::Unfinished { rounds } => write_count(f, *rounds, " not ended within", "round"),
         MatchNews::OutOfTime { minutes } => {
             write_count(f, *minutes, " not ended within", "minute")

@@ -10,7 +10,7 @@ use Rattle.rbg_network.specs.Archives.{Handed, is_any_lost}
 use Rattle.rbg_serving.specs.Passing.{Behaviour}
 use Rattle.rbg_referee.specs.declared.answer.Answer.{Answer}
 use Rattle.rbg_hosting.specs.Archives.{AreHandedOver, IsArchivedRun, IsHandedFor, IsHandedOver, wanted_of}
-use Rattle.rbg_hosting.specs.Pasts.{BeginsWithPast}
+use Rattle.rbg_hosting.specs.Moments.{GoesOnAfter, HearsPast, IsSince, later_event}
 use Rattle.rbg_hosting.specs.Records.{ArePrintedMatches, HasEnded}
 use Rattle.rbg_hosting.specs.Served.{status_for}
 use Rattle.rbg_hosting.specs.declared.fault.ServingFault.{ServingFault}
@@ -94,13 +94,15 @@ pub record HandsAt {A : Type 0} (told : A → List Handed → Type 0) (before af
   pub hands : WorksUnless (noted_at before index) begun → (handed : List Handed) → HasHanded told before handed →
       HandsOne told after (suc index) (noted_at before index) begun handed
 
--- Like a hall, it is over once every match has ended, and hears each line that may speak until then. After each event it
--- hands over what is to be handed over. Where an event isn't handled, nothing is.
+-- Like a hall, it is over once every match has ended, and hears each line that may speak until then. Each event is heard
+-- later by the moment from which the matches go on. After it is handed over what is to be handed over. Where an event isn't
+-- handled, nothing is.
 abbrev pub of_recorded : {W A : Type 0} → (told : A → List Handed → Type 0) → Behaviour (RecordedHall W A)
 of_recorded told = record {
   steps = λ old event new before after.
-      HallHears old.hall.state (hall_event event) new.hall.state before after
-      × HandsOver told old.recorder new.recorder old.hall.state.tables new.hall.state.tables;
+      HallHears old.hall.state (hall_event (later_event old.since event)) new.hall.state before after
+      × HandsOver told old.recorder new.recorder old.hall.state.tables new.hall.state.tables
+      × (new.since ≡ old.since);
   lacks = λ old new. new.recorder ≡ old.recorder;
   listens = λ recorded seat. (¬ HaveAllEnded recorded.hall.state.tables) × MaySpeak recorded.hall.state (seat - 1);
   over = λ recorded. HaveAllEnded recorded.hall.state.tables;
@@ -148,10 +150,12 @@ pub record HasArchived {A : Type 0} (told : A → List Handed → Type 0) (start
   pub queues : List (List ℕ)
   pub run : IsArchivedRun starts matches events state queues handed
 
--- The same, where the events begin with all of this past.
-pub record HasArchivedAfter {A : Type 0} (told : A → List Handed → Type 0) (starts : List AbstractTable) (matches : ℕ)
-    (past : List AbstractHallEvent) (recorder : Recorder A) (state : HallState) : Type 0 where
+-- The same, where a past was heard first, and then others by a clock.
+pub record HasArchivedAfter {A C : Type 0} (told : A → List Handed → Type 0) (clock : C → List ℕ → Type 0)
+    (starts : List AbstractTable) (matches : ℕ) (past : List AbstractHallEvent) (recorder : Recorder A) (state : HallState) :
+    Type 0 where
   pub later : List AbstractHallEvent
+  pub goes_on : GoesOnAfter clock starts past later
   pub archived : HasArchived told starts matches (past ++ later) recorder state
 
 -- a fault with the status of a device
@@ -159,18 +163,23 @@ abbrev pub IsOfDevice : ServingFault → Type 0
 IsOfDevice fault = (fault ≡ DeviceFailed) ⊎ (fault ≡ Rounds)
 
 -- A recorder has handed over what is to be handed over in a run that led to some state, after which it was served no more.
-pub record IsStopped {A : Type 0} (told : A → List Handed → Type 0) (starts : List AbstractTable) (matches : ℕ)
-    (past : List AbstractHallEvent) (recorder : Recorder A) (fault : ServingFault) : Type 0 where
+pub record IsStopped {A C : Type 0} (told : A → List Handed → Type 0) (clock : C → List ℕ → Type 0)
+    (starts : List AbstractTable) (matches : ℕ) (past : List AbstractHallEvent) (recorder : Recorder A) (fault : ServingFault) :
+    Type 0 where
   pub events : List AbstractHallEvent
-  pub begins : BeginsWithPast past events
+  pub hears : HearsPast clock starts past events
   pub state : HallState
   pub archived : HasArchived told starts matches events recorder state
   pub device : recorder.lost ≡ true → IsOfDevice fault
 
 -- how the serving of a hall ends that had this past
-abbrev pub RunEnds : {W A U : Type 0} → (told : A → List Handed → Type 0) → List AbstractTable → (matches : ℕ) → (past : List AbstractHallEvent) → (after : RecordedHall W A) → Result U ServingFault → Type 0
-RunEnds told starts matches past after (Ok _) = HasArchivedAfter told starts matches past after.recorder after.hall.state
-RunEnds told starts matches past after (Err fault) = IsStopped told starts matches past after.recorder fault
+abbrev pub RunEnds : {W A C U : Type 0} → (told : A → List Handed → Type 0) → (clock : C → List ℕ → Type 0) → List AbstractTable → (matches : ℕ) → (past : List AbstractHallEvent) → (after : RecordedHall W A) → Result U ServingFault → Type 0
+RunEnds told clock starts matches past after (Ok _) = HasArchivedAfter told clock starts matches past after.recorder after.hall.state
+RunEnds told clock starts matches past after (Err fault) = IsStopped told clock starts matches past after.recorder fault
+
+-- the moment from which its matches go on is the one that it has
+abbrev pub HasSince : {W A : Type 0} → RecordedHall W A → (starts : List AbstractTable) → Type 0
+HasSince recorded starts = IsSince recorded.hall.state.tables (length starts) recorded.since
 
 -- the text is that of the records of a hall that has so many matches, and has ended
 abbrev pub AnswersRecords : {W A : Type 0} → (matches : ℕ) → RecordedHall W A → (text : List ℕ) → Type 0

@@ -1,5 +1,5 @@
 -- One more log is read.
-use Rattle.std.proofs.Common.{◌+◌, ◌∙◌, ap, length, subst, sym}
+use Rattle.std.proofs.Common.{◌+◌, ◌∙◌, ap, length, string_bytes, subst, sym}
 use Rattle.std.proofs.lemmas.List.{length_push}
 use Rattle.rbg_hosting.specs.Pasts.{AreLogs, log_name}
 use Rattle.rbg_hosting.specs.internal.Resuming.{pasts_in}
@@ -13,7 +13,7 @@ loop-index-preserved g c =
       as_many = ap length c.in_ok-push.ensures.items ∙ length_push c.loop-index.pasts.items _ ∙ ap (λ n. n + 1) c.loop-index.invariant.as_many;
       logs = subst (λ items. AreLogs known (pasts_in items)) (sym c.in_ok-push.ensures.items)
           (one_more_log known c.loop-index.pasts.items c.in_ok-past.past (c.loop-index.index + 1) c.loop-index.invariant.logs (ap (λ n. n + 1) (sym c.loop-index.invariant.as_many))
-          (same_log (g.F.Files.told c.args.files.now) (g.F.Files.told c.loop-index.files) (log_name c.args.name.now (c.loop-index.index + 1)) c.as_str.result.now c.in_ok-past.past
-          (c.loop-index.invariant.kept (log_name c.args.name.now (c.loop-index.index + 1))) (c.as_str.ensures ∙ c.in_ok-log.ensures) c.in_ok-past.ensures.log));
+          (same_log (g.F.Files.told c.args.files.now) (g.F.Files.told c.loop-index.files) (log_name c.args.name.now (c.loop-index.index + 1)) (string_bytes c.in_ok-log.log) c.in_ok-past.past
+          (c.loop-index.invariant.kept (log_name c.args.name.now (c.loop-index.index + 1))) c.in_ok-log.ensures c.in_ok-past.ensures.log));
       kept = λ name. c.take_past.ensures.kept name ∙ c.loop-index.invariant.kept name;
     }

@@ -1,7 +1,11 @@
 -- The bytes of the log are read.
-use Rattle.rbg_hosting.proofs.PastLemmas.{known_log}
+use Rattle.std.proofs.Common.{option_map, subst, sym}
+use Rattle.rbg_console.specs.Files.{MayBe}
+use Rattle.rbg_script.specs.Scripts.{script_of}
+use Rattle.rbg_hosting.specs.Pasts.{IsLogOf}
 use Rattle.rbg_hosting.proofs.past.take_past.Goals as goal
 
 pub returns-in-Whole-clause-log : goal.returns-in-Whole-clause-log
 returns-in-Whole-clause-log g c =
-    known_log c.read_past.result _ c.in-Whole.bytes.items c.as_slice.result.now c.as_slice.ensures.value c.in_ok-read_file.ensures.read.1 c.read_past.ensures.log
+    subst (λ name. IsLogOf (g.F.Files.told c.args.files.now name) (option_map script_of c.in_ok-script.script)) c.as_str-2.ensures
+    (c.in_ok-script.ensures _ (subst (MayBe (g.F.Files.told c.args.files.now c.as_str-2.result.now)) (sym c.as_slice.ensures.value) c.in_ok-read_file.ensures.read.1))

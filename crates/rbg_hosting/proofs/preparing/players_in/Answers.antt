@@ -3,7 +3,7 @@ use Rattle.std.proofs.Common.{◌∙◌, ◌++◌, ◌∷◌, [], ap, sym}
 use Rattle.rbg_base.proofs.CallerLemmas.{map-take_more}
 use Rattle.rbg_hall.specs.declared.table.Table.{Table}
 use Rattle.rbg_match.specs.PlayingOn.{seats_of}
-use Rattle.rbg_hosting.proofs.going_on.players_in.Goals as goal
+use Rattle.rbg_hosting.proofs.preparing.players_in.Goals as goal
 
 pub loop-table-preserved : goal.loop-table-preserved
 loop-table-preserved c =
