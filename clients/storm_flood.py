@@ -4,6 +4,7 @@ import random
 import socket
 import time
 from contextlib import closing
+from pathlib import Path
 from typing import Callable
 
 from storm_clock import FOR_EIGHT

@@ -1,5 +1,5 @@
 -- From which moment the matches of a hall go on.
-use Rattle.rbg_base.proofs.Common.{◌≡◌, ◌⊎◌, ℕ, zero, suc, ◌+◌, ◌<◌, ◌≤◌, ◌-◌, List, sym, ap, ◌∙◌, subst, arith, Option, Some, None, inl, inr, same_Some, false≢true}
+use Rattle.rbg_base.proofs.Common.{◌≡◌, ◌⊎◌, ℕ, zero, suc, ◌+◌, ◌<◌, ◌≤◌, ◌-◌, List, sym, ap, ◌∙◌, subst, arith, Option, Some, None, inl, inr, cases_lt}
 use Rattle.rbg_match.specs.Matches.{MatchState}
 use Rattle.rbg_hall.specs.Tables.{TableState}
 use Rattle.rbg_hosting.specs.Moments.{IsInPlay, IsSince}
@@ -17,8 +17,11 @@ weaken tables (Some one) (Some at) number later before = λ moment is. let least
 same_last : (tables : List TableState) (number one other : ℕ) → IsInPlay tables number one → IsInPlay tables number other → one ≡ other
 same_last tables number one other x y =
     x.last
-    ∙ ap (λ (playing : MatchState). playing.streams.moment) (same_Some (sym x.begun ∙ y.begun))
+    ∙ ap (λ (playing : MatchState). playing.streams.moment) (same (sym x.begun ∙ y.begun))
     ∙ sym y.last
+  where
+    same : {a b : MatchState} → Some a ≡ Some b → a ≡ b
+    same is = cc
 
 own : (tables : List TableState) (number : ℕ) (last : Option ℕ) → IsLastOrNone tables number last → IsNotBefore tables last number
 own tables number None is = is
@@ -28,7 +31,7 @@ there : (tables : List TableState) (matches : ℕ) (last : Option ℕ) → IsLas
 there tables matches None is = tt {0}
 there tables matches (Some at) is = (matches + 1, omega arith, is)
 
-more : (tables : List TableState) (matches : ℕ) (first : Option ℕ) → IsOfOne tables matches first → IsOfOne tables (matches + 1) first
+more : (tables : List TableState) (matches : ℕ) (before : Option ℕ) → IsOfOne tables matches before → IsOfOne tables (matches + 1) before
 more tables matches None of_one = tt {0}
 more tables matches (Some at) of_one = let within = of_one.1 in (of_one.0, omega (arith, within), of_one.2)
 
@@ -37,8 +40,8 @@ pub none_yet : (tables : List TableState) → IsFirst tables 0 None
 none_yet tables = record { of_one = tt {0}; not_before = λ number few moment is. unnumbered number few is }
   where
     unnumbered : (number : ℕ) → {moment : ℕ} → number ≤ 0 → IsInPlay tables number moment → ⊥
-    unnumbered zero few is = absurd is.begun
-    unnumbered (suc number) few is = absurd (omega (arith, few))
+    unnumbered zero few is = let wrong : None ≡ Some is.playing = is.begun in cc
+    unnumbered (suc number) few is = omega (arith, few)
 
 -- one match more
 pub one_more : (tables : List TableState) (matches : ℕ) (before last new : Option ℕ) → IsFirst tables matches before → IsLastOrNone tables (matches + 1) last → IsEarlierOf before last new → IsFirst tables (matches + 1) new
@@ -47,14 +50,11 @@ one_more tables matches before last new are is earlier = record {
     | inl same ↦ subst (IsOfOne tables (matches + 1)) (sym same) (more tables matches before are.of_one)
     | inr same ↦ subst (IsOfOne tables (matches + 1)) (sym same) (there tables matches last is)
   ];
-  not_before = λ number within. elim (below number matches within) [
-    | inl less ↦ weaken tables before new number earlier.before_one (are.not_before number less)
-    | inr same ↦ subst (IsNotBefore tables new) (sym same) (weaken tables last new (matches + 1) earlier.before_other (own tables (matches + 1) last is))
+  not_before = λ number within. elim (cases_lt number (matches + 1)) [
+    | inl less ↦ weaken tables before new number earlier.before_one (are.not_before number (omega (arith, less)))
+    | inr past ↦ let same : number ≡ matches + 1 = omega (arith, within, past) in subst (IsNotBefore tables new) (sym same) (weaken tables last new (matches + 1) earlier.before_other (own tables (matches + 1) last is))
   ];
 }
-  where
-    below : (number matches : ℕ) → number ≤ matches + 1 → (number ≤ matches) ⊎ (number ≡ matches + 1)
-    below number matches within = search rules
 
 -- from the first of them
 pub since_first : (tables : List TableState) (matches at : ℕ) → IsFirst tables matches (Some at) → IsSince tables matches at
