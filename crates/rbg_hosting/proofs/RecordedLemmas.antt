@@ -106,6 +106,16 @@ heard_through {told = told} {starts = starts} {matches = matches} {old = old} {n
     (subst (λ n. HasHeard told starts matches new.recorder ((earlier ++ events_since old.since heard) ++ hall_event (later_event n (event_of one)) ∷ []) new.hall.state queued) (since_stays handles)
     (heard_next (heard_through earlier so_far handles) step.0 step.1))
 
+-- it has heard the same if only the moment is another from which its matches go on
+pub heard_again : {W A : Type 0} {told : A → List Handed → Type 0} {starts : List AbstractTable} {matches : ℕ} {events : List AbstractHallEvent} {queues : List (List ℕ)} (old new : RecordedHall W A) →
+    new.hall ≡ old.hall →
+    new.recorder ≡ old.recorder →
+    HasHeard told starts matches old.recorder events old.hall.state queues →
+    HasHeard told starts matches new.recorder events new.hall.state queues
+heard_again {told = told} {starts = starts} {matches = matches} {events = events} {queues = queues} old new same_hall same_recorder so_far =
+    subst (λ (one : Recorder _). HasHeard told starts matches one events new.hall.state queues) (sym same_recorder)
+    (subst (λ (one : HeldHall _). HasHeard told starts matches old.recorder events one.state queues) (sym same_hall) so_far)
+
 -- the run of what was heard
 pub has_run : {starts : List AbstractTable} {matches : ℕ} {events : List AbstractHallEvent} {state : HallState} {queues : List (List ℕ)} {handed : List Handed} → IsArchivedRun starts matches events state queues handed → HasRun starts events state queues
 has_run begins = record { told = []; run = halls.none; queued = sym (told_to-none (replicate lines_in_all [])) }

@@ -129,8 +129,27 @@ fn tell_matches<N: Network>(
         let number = index as u64 + 1;
         if let Some(news) = start_news(hall, number) {
             let hosting = serving.hosting;
-            tell_match_names(network, hosting, number, names_at(going, index, serving));
+            match serving.keeping.names {
+                Some(names) => {
+                    tell_match_names(network, hosting, number, names_in(Some(names), index));
+                }
+                None => tell_names_of_log(network, hosting, number, going.pasts.get(index)),
+            }
             hosting.tell(network, &News::OfMatch { number, news });
+        }
+    }
+}
+
+/// Reports who sits where in the match of a number, if the game file of its log says that.
+fn tell_names_of_log<N: Network>(
+    network: &mut N,
+    hosting: Hosting,
+    number: u64,
+    past: Option<&Past>,
+) {
+    if let Some(past) = past {
+        if let Some(names) = &past.names {
+            tell_match_names(network, hosting, number, Some(names.as_str()));
         }
     }
 }
@@ -141,17 +160,6 @@ fn start_news<W: Log>(hall: &Hall<W>, number: u64) -> Option<MatchNews<'static>>
         Place::Nobody => None,
         Place::New(_) => Some(MatchNews::Begins),
         Place::Known(_) => Some(MatchNews::GoesOn),
-    }
-}
-
-/// Who sits where in the match at an index, as the organiser says, or else the game file of its log.
-fn names_at<'a>(going: Going<'a>, index: usize, serving: &Serving<'a>) -> Option<&'a str> {
-    if serving.keeping.names.is_some() {
-        return names_in(serving.keeping.names, index);
-    }
-    match &going.pasts.get(index)?.names {
-        Some(names) => Some(names.as_str()),
-        None => None,
     }
 }
 

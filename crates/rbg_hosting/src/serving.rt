@@ -79,6 +79,7 @@ pub(crate) fn play<N: Network, A: Archive>(
         players,
         noted,
     } = prepared;
+    let matches = players.len();
     let recorder = Recorder::new(archive, noted);
     let mut recorded = RecordedHall::new(hall, recorder, end_of(&serving.keeping));
     let going = Going {
@@ -86,8 +87,8 @@ pub(crate) fn play<N: Network, A: Archive>(
         players: players.as_slice(),
     };
     let served = go_on(alloc, network, &mut recorded, &mut out, going, serving);
-    tell_ends(network, recorded.hall(), players.len(), &served, serving);
-    let answer = answer_of(alloc, &recorded, players.len(), served);
+    tell_ends(network, recorded.hall(), matches, &served, serving);
+    let answer = answer_of(alloc, &recorded, matches, served);
     (answer, recorded.into_archive())
 }
 

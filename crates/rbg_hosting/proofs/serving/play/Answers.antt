@@ -18,7 +18,7 @@ pub returns-clause-printed : goal.returns-clause-printed
 returns-clause-printed g c none config descriptions wants prepared =
     let is_new = subst (λ (one : HeldHall _). IsNewHall prepared.tables one c.args.prepared.out) (sym c.new-recorded.ensures.hall) prepared.is in
     let as_many : length prepared.tables ≡ length c.args.prepared.players.items = sym (ap length prepared.players_are ∙ length-map prepared.tables (λ (table : AbstractTable). seats_of table.game)) in
-    let counted = as_many ∙ sym (c.len.ensures ∙ c.args.prepared.players.ok.0) in
+    let counted = as_many ∙ sym (c.len-matches.ensures ∙ c.args.prepared.players.ok.0) in
     records_printed c.go_on-served.result c.answer_of-answer.result c.go_on-served.new.recorded config descriptions prepared.tables _
     prepared.are counted
     (on_ok c.go_on-served.result (λ over. over prepared.tables [] (new_run prepared.tables c.new-recorded.result.hall c.args.prepared.out is_new)) (c.go_on-served.ensures.new_ended (c.as_slice.ensures.value ∙ none)))
@@ -28,7 +28,7 @@ pub returns-clause-archived : goal.returns-clause-archived
 returns-clause-archived g c config descriptions wants prepared empty =
     let is_new = subst (λ (one : HeldHall _). IsNewHall prepared.tables one c.args.prepared.out) (sym c.new-recorded.ensures.hall) prepared.is in
     let as_many : length prepared.tables ≡ length c.args.prepared.players.items = sym (ap length prepared.players_are ∙ length-map prepared.tables (λ (table : AbstractTable). seats_of table.game)) in
-    let counted = as_many ∙ sym (c.len.ensures ∙ c.args.prepared.players.ok.0) in
+    let counted = as_many ∙ sym (c.len-matches.ensures ∙ c.args.prepared.players.ok.0) in
     let same = c.new-recorded.ensures.recorder in
     let fresh = fresh_recorder g.A.Archive.handed c.new-recorded.result.recorder c.args.archive c.args.prepared.noted.items wants (length prepared.tables)
     (ap (λ (one : Recorder _). one.archive) same ∙ c.new-recorder.ensures.archive)

@@ -5,8 +5,8 @@ use Rattle.rbg_hosting.specs.Served.IsOutcome.{not_begun}
 use Rattle.rbg_hosting.specs.internal.Resuming.{pasts_in}
 use Rattle.rbg_hosting.proofs.serving.serve_hall.Goals as goal
 
-pub play-requires-in-Ok : goal.play-requires-in-Ok
-play-requires-in-Ok g c = let none = ap length c.in-Ok.ensures.is_new in omega (arith, none)
+pub play-requires : goal.play-requires
+play-requires g c = let none = ap length c.in-Ok.ensures.is_new in omega (arith, none)
 
 pub returns-in-Ok-clause-printed : goal.returns-in-Ok-clause-printed
 returns-in-Ok-clause-printed g c = c.play.ensures.printed c.in-Ok.ensures.is_new _ _ _ c.in-Ok.ensures.prepared
