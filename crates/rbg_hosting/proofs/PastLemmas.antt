@@ -27,13 +27,13 @@ use Rattle.rbg_hosting.specs.internal.Resuming.{past_in_code, pasts_in}
 use Rattle.rbg_hosting.proofs.RecordedLemmas.{StoppedSo, has_archived, heard_next}
 
 -- a hall that has heard so many of some events hears the next one
-pub one_heard : {A : Type 0} {told : A → List Handed → Type 0} {starts : List AbstractTable} {matches : ℕ} {before after : Recorder A} {earlier : List AbstractHallEvent} {old new : HallState} {queues queued : List (List ℕ)} (events : List HallEvent) (index : ℕ) (read : HallEvent) →
+pub one_heard : {A : Type 0} {told : A → List Handed → Type 0} {starts : List AbstractTable} {matches : ℕ} {before after : Recorder A} {old new : HallState} {queues queued : List (List ℕ)} (earlier : List AbstractHallEvent) (events : List HallEvent) (index : ℕ) (read : HallEvent) →
     index < length events →
     read ≡ get_or events index read →
     HasHeard told starts matches before (earlier ++ map event_of (take index events)) old queues →
     HallHears old (event_of read) new queues queued × HandsOver told before after old.tables new.tables →
     HasHeard told starts matches after (earlier ++ map event_of (take (index + 1) events)) new queued
-one_heard {told = told} {starts = starts} {matches = matches} {after = after} {earlier = earlier} {new = new} {queued = queued} events index read within is so_far hears =
+one_heard {told = told} {starts = starts} {matches = matches} {after = after} {new = new} {queued = queued} earlier events index read within is so_far hears =
     subst (λ all. HasHeard told starts matches after all new queued)
     (append_assoc earlier (map event_of (take index events)) (event_of read ∷ [])
     ∙ ap (λ all. earlier ++ all) (sym (map-take_more event_of events index read within is)))
@@ -99,12 +99,12 @@ part_heard {told = told} {starts = starts} {matches = matches} {after = after} {
 }
 
 -- or it stops there
-pub part_stopped : {A : Type 0} {told : A → List Handed → Type 0} {starts : List AbstractTable} {matches : ℕ} {before after : Recorder A} {earlier more left next rest : List AbstractHallEvent} {old : HallState} {queues : List (List ℕ)} →
+pub part_stopped : {A : Type 0} {told : A → List Handed → Type 0} {starts : List AbstractTable} {matches : ℕ} {before after : Recorder A} {earlier more left next : List AbstractHallEvent} {old : HallState} {queues : List (List ℕ)} (rest : List AbstractHallEvent) →
     left ≡ next ++ rest →
     HasHeardPart told starts matches before earlier more left old queues →
     ((events : List AbstractHallEvent) → HasHeard told starts matches before events old queues → HasStopped told starts matches after events next) →
     HasStopped told starts matches after earlier more
-part_stopped {told = told} {starts = starts} {matches = matches} {after = after} {earlier = earlier} {rest = rest} parts so_far stops =
+part_stopped {told = told} {starts = starts} {matches = matches} {after = after} {earlier = earlier} rest parts so_far stops =
     let stop = stops (earlier ++ so_far.heard) so_far.is in
     record {
       heard = so_far.heard ++ stop.heard;

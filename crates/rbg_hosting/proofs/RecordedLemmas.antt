@@ -126,13 +126,13 @@ pub has_archived : {A : Type 0} {told : A → List Handed → Type 0} {starts : 
 has_archived {queues = queues} so_far = record { handed = so_far.handed; has = so_far.has; queues = queues; run = so_far.run }
 
 -- what a hall hears that goes on, of which the first is handled
-goes_on_so : {W A C : Type 0} {told : C → List ℕ → Type 0} {starts : List AbstractTable} {past : List AbstractHallEvent} {queues : List (List ℕ)} {clock : C} {readings : List ℕ} (old : RecordedHall W A) (handled left : List Heard) →
+goes_on_so : {W A C : Type 0} {told : C → List ℕ → Type 0} {starts : List AbstractTable} {past : List AbstractHallEvent} {queues : List (List ℕ)} {readings : List ℕ} (clock : C) (old : RecordedHall W A) (handled left : List Heard) →
     HasSince old starts →
     HasRun starts past old.hall.state queues →
     told clock readings →
     IsTimed readings (handled ++ left) →
     GoesOnAfter told starts past (events_since old.since handled)
-goes_on_so {queues = queues} {clock = clock} {readings = readings} old handled left from run tells timed = record {
+goes_on_so {queues = queues} {readings = readings} clock old handled left from run tells timed = record {
   stood = old.hall.state;
   queues = queues;
   run = run;
@@ -142,15 +142,15 @@ goes_on_so {queues = queues} {clock = clock} {readings = readings} old handled l
 }
 
 -- what a recorder has done for a hall that was served to its end
-pub archived_so : {W A C : Type 0} {told : A → List Handed → Type 0} {clock_told : C → List ℕ → Type 0} {clock : C} {starts : List AbstractTable} {matches : ℕ} {past : List AbstractHallEvent} {rounds : ℕ} {before after : List Told} {moments : List ℕ} {old new : RecordedHall W A} {queued_before queued : List (List ℕ)} {served : Served} →
+pub archived_so : {W A C : Type 0} {told : A → List Handed → Type 0} {clock_told : C → List ℕ → Type 0} {starts : List AbstractTable} {matches : ℕ} {past : List AbstractHallEvent} {rounds : ℕ} {before after : List Told} {moments : List ℕ} {old new : RecordedHall W A} {queued_before queued : List (List ℕ)} {served : Served} (clock : C) →
     HasSince old starts →
     HasHeard told starts matches old.recorder past old.hall.state queued_before →
     clock_told clock moments →
     Serves (of_recorded told) rounds before after moments old new queued_before queued (Ok served) →
     HasArchivedAfter told clock_told starts matches past new.recorder new.hall.state
-archived_so {past = past} {moments = moments} {old = old} from so_far tells serves = record {
+archived_so {past = past} {moments = moments} {old = old} clock from so_far tells serves = record {
   later = events_since old.since serves.heard;
-  goes_on = goes_on_so old serves.heard [] from (has_run so_far.run) tells (subst (IsTimed moments) (sym (append-nil serves.heard)) serves.timed);
+  goes_on = goes_on_so clock old serves.heard [] from (has_run so_far.run) tells (subst (IsTimed moments) (sym (append-nil serves.heard)) serves.timed);
   archived = has_archived (heard_through past so_far serves.ends.0.handles);
 }
 
@@ -187,19 +187,19 @@ heard_so {past = past} {later = later} {state = state} goes_on so_far = record {
 }
 
 -- in a call that is served no more
-pub archived_until : {W A C : Type 0} {told : A → List Handed → Type 0} {clock_told : C → List ℕ → Type 0} {clock : C} {starts : List AbstractTable} {matches : ℕ} {past : List AbstractHallEvent} {rounds : ℕ} {before after : List Told} {moments : List ℕ} {old new : RecordedHall W A} {queued_before queued : List (List ℕ)} (error : ServeError) →
+pub archived_until : {W A C : Type 0} {told : A → List Handed → Type 0} {clock_told : C → List ℕ → Type 0} {starts : List AbstractTable} {matches : ℕ} {past : List AbstractHallEvent} {rounds : ℕ} {before after : List Told} {moments : List ℕ} {old new : RecordedHall W A} {queued_before queued : List (List ℕ)} (clock : C) (error : ServeError) →
     HasSince old starts →
     HasHeard told starts matches old.recorder past old.hall.state queued_before →
     clock_told clock moments →
     Serves (of_recorded told) rounds before after moments old new queued_before queued (Err error) →
     StoppedSo told clock_told starts matches past new.recorder
-archived_until {past = past} {moments = moments} {old = old} Rounds from so_far tells serves =
-    heard_so (goes_on_so old serves.heard [] from (has_run so_far.run) tells (subst (IsTimed moments) (sym (append-nil serves.heard)) serves.timed))
+archived_until {past = past} {moments = moments} {old = old} clock Rounds from so_far tells serves =
+    heard_so (goes_on_so clock old serves.heard [] from (has_run so_far.run) tells (subst (IsTimed moments) (sym (append-nil serves.heard)) serves.timed))
     (heard_through past so_far serves.ends.0.handles)
-archived_until {told = told} {clock_told = clock_told} {starts = starts} {matches = matches} {past = past} {moments = moments} {old = old} {new = new} Memory from so_far tells serves =
+archived_until {told = told} {clock_told = clock_told} {starts = starts} {matches = matches} {past = past} {moments = moments} {old = old} {new = new} clock Memory from so_far tells serves =
     elim serves.ends.1 [
       | inl lacks ↦ subst (λ (recorder : Recorder _). StoppedSo told clock_told starts matches past recorder) (sym lacks.lacks)
-          (heard_so (goes_on_so old lacks.handled (lacks.refused ∷ []) from (has_run so_far.run) tells (subst (IsTimed moments) lacks.split serves.timed))
+          (heard_so (goes_on_so clock old lacks.handled (lacks.refused ∷ []) from (has_run so_far.run) tells (subst (IsTimed moments) lacks.split serves.timed))
           (heard_through past so_far lacks.handles))
       | inr unheard ↦ subst (λ (one : RecordedHall _ _). StoppedSo told clock_told starts matches past one.recorder) (sym unheard.2) (unheard_so so_far)
     ]

@@ -72,13 +72,13 @@ impl<W: Log, A: Archive> RecordedHall<W, A> {
     }
 
     /// Hears an event of the past, at whatever moment, and hands over what is to be handed over then.
-    pub(crate) fn hear(&mut self, event: HallEvent<'_>, out: &mut HallOut) -> Result<(), Memory>
-        ensures hears { OnOk result (HallHears self.old.hall.state (event_of event.entry) self.new.hall.state out.old out.new
+    pub(crate) fn hear(&mut self, event: &HallEvent<'_>, out: &mut HallOut) -> Result<(), Memory>
+        ensures hears { OnOk result (HallHears self.old.hall.state (event_of event.now) self.new.hall.state out.old out.new
             × HandsOver A.handed self.old.recorder self.new.recorder
             self.old.hall.state.tables self.new.hall.state.tables) }
         ensures stops { OnErr result (self.new.recorder ≡ self.old.recorder) }
     {
-        self.hall.step(event, out)?;
+        self.hall.step(*event, out)?;
         self.recorder.hand_over(&self.hall);
         Ok(())
     }

@@ -33,14 +33,14 @@ pub(crate) fn replay_all<W: Log, A: Archive>(
 {
     let mut line: u64 = 0;
     for index in 0..pasts.len() {
-        let many = players[index];
-        let Some(next) = line.checked_add(many) else {
+        let many = &players[index];
+        let Some(next) = line.checked_add(*many) else {
             return Err(ServingFault::Config);
         };
         let seats = Seats {
             number: index as u64 + 1,
             line,
-            players: many,
+            players: *many,
         };
         match replay(alloc, recorded, out, &pasts[index], seats) {
             Ok(()) => line = next,
@@ -255,7 +255,7 @@ fn hear_all<W: Log, A: Archive>(
     ensures { HearsMore A.handed recorded.old recorded.new out.old out.new (map hall_event events.now) result }
 {
     for event in events {
-        match recorded.hear(*event, out) {
+        match recorded.hear(event, out) {
             Ok(()) => (),
             Err(_) => return Err(recorded.fault_of(ServeError::Memory)),
         }

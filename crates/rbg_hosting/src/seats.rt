@@ -55,7 +55,8 @@ fn places_of<W: Log>(
     let mut places = Vec::new(alloc);
     for index in 0..players.len() {
         let number = index as u64 + 1;
-        add_places(place_of(hall, number), players[index], &mut places)?;
+        let count = &players[index];
+        add_places(place_of(hall, number), *count, &mut places)?;
     }
     Ok(places)
 }

@@ -1,5 +1,5 @@
 -- One more log is read.
-use Rattle.std.proofs.Common.{◌+◌, ◌∙◌, ap, length, string_bytes, subst, sym}
+use Rattle.std.proofs.Common.{ℕ, ◌+◌, ◌∙◌, List, Option, ap, length, string_bytes, subst, sym}
 use Rattle.std.proofs.lemmas.List.{length_push}
 use Rattle.rbg_hosting.specs.Pasts.{AreLogs, log_name}
 use Rattle.rbg_hosting.specs.internal.Resuming.{pasts_in}
@@ -8,7 +8,7 @@ use Rattle.rbg_hosting.proofs.past.read_pasts.Goals as goal
 
 pub loop-index-preserved : goal.loop-index-preserved
 loop-index-preserved g c =
-    let known = λ number. g.F.Files.told c.args.files.now (log_name c.args.name.now number) in
+    let known : ℕ → Option (List ℕ) = λ number. g.F.Files.told c.args.files.now (log_name c.args.name.now number) in
     record {
       as_many = ap length c.in_ok-push.ensures.items ∙ length_push c.loop-index.pasts.items _ ∙ ap (λ n. n + 1) c.loop-index.invariant.as_many;
       logs = subst (λ items. AreLogs known (pasts_in items)) (sym c.in_ok-push.ensures.items)

@@ -27,7 +27,7 @@ returns-in_default-clause-nothing g c = c.loop-index.invariant.nothing
 
 pub returns-in-Err-clause-hears : goal.returns-in-Err-clause-hears
 returns-in-Err-clause-hears g c starts matches earlier so_far =
-    part_stopped
+    part_stopped _
     (past_next (c.loop-index.index + 1) c.loop-index.line c.index-players-index.result c.args.players.now c.args.pasts.now c.loop-index.index c.index-pasts-index.result
     (omega (arith, c.requires, c.loop-index-test.true)) c.loop-index-test.true c.index-players-index.is c.index-pasts-index.is)
     (c.loop-index.invariant.heard starts matches earlier so_far) (c.in-Err.ensures starts matches)

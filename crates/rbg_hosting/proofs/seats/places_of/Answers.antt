@@ -4,7 +4,7 @@ use Rattle.rbg_hosting.proofs.SeatLemmas.{all_placed, none_placed, one_placed}
 use Rattle.rbg_hosting.proofs.seats.places_of.Goals as goal
 
 pub loop-index-init : goal.loop-index-init
-loop-index-init g c = none_placed _ _ _ c.new-places.ensures.items
+loop-index-init g c = none_placed c.args.hall.now.state.tables c.args.players.now c.new-places.result.items c.new-places.ensures.items
 
 pub loop-index-preserved : goal.loop-index-preserved
 loop-index-preserved g c =

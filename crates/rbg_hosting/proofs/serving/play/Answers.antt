@@ -37,10 +37,10 @@ returns-clause-archived g c config descriptions wants prepared empty =
     prepared.places empty in
     let first = heard_first c.new-recorded.result.recorder is_new fresh.0 in
     let run = c.go_on-served.ensures.archived prepared.tables _ (as_many ∙ ap length (sym c.as_slice-2.ensures.value)) first in
-    subst (λ archive. HasOutcome g.A.Archive.handed g.N.Network.Clock.Clock.told config descriptions (pasts_in c.args.prepared.pasts.items) wants archive c.answer_of-answer.result) (sym c.into_archive.ensures)
-    (outcome_so g.A.Archive.handed g.N.Network.Clock.Clock.told c.go_on-served.result c.answer_of-answer.result c.go_on-served.new.recorded config descriptions (pasts_in c.args.prepared.pasts.items) wants prepared.tables
+    subst (λ archive. HasOutcome g.A.Archive.handed g.N.Clock.Clock.told config descriptions (pasts_in c.args.prepared.pasts.items) wants archive c.answer_of-answer.result) (sym c.into_archive.ensures)
+    (outcome_so g.A.Archive.handed g.N.Clock.Clock.told c.go_on-served.result c.answer_of-answer.result c.go_on-served.new.recorded config descriptions (pasts_in c.args.prepared.pasts.items) wants prepared.tables
     _ _ prepared.are counted
     (ap (λ them. past_from 1 0 c.as_slice-2.result.now (pasts_in them)) c.as_slice.ensures.value ∙ ap (λ them. past_from 1 0 them (pasts_in c.args.prepared.pasts.items)) (c.as_slice-2.ensures.value ∙ prepared.players_are))
     (on_ok c.go_on-served.result (λ over. over prepared.tables _ first) c.go_on-served.ensures.ended)
-    (subst (λ n. RunEnds g.A.Archive.handed g.N.Network.Clock.Clock.told prepared.tables n _ c.go_on-served.new.recorded c.go_on-served.result) (fresh.1 ∙ ap (λ n. wanted_of wants n) counted) run)
+    (subst (λ n. RunEnds g.A.Archive.handed g.N.Clock.Clock.told prepared.tables n _ c.go_on-served.new.recorded c.go_on-served.result) (fresh.1 ∙ ap (λ n. wanted_of wants n) counted) run)
     c.answer_of-answer.ensures)

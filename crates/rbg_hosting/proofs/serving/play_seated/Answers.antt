@@ -17,8 +17,8 @@ returns-in-Ok-clause-archived g c starts matches past many so_far =
     let after = c.go_on_from.new.self in
     c.run_hall-served.ensures.archived starts matches past
     (subst (λ since. IsSince after.hall.state.tables (length starts) since) (sym c.go_on_from.ensures.since)
-    (subst (λ n. IsSince after.hall.state.tables n c.since_of-since.result) (c.len.ensures ∙ sym many)
-    (subst (λ (one : HeldHall _). IsSince one.state.tables c.len.result c.since_of-since.result) (c.hall.ensures ∙ sym c.go_on_from.ensures.hall) c.since_of-since.ensures)))
+    (subst (λ n. IsSince after.hall.state.tables n c.since_of-since.result) (sym many)
+    (subst (λ (one : HeldHall _). IsSince one.state.tables (length c.args.going.players.now) c.since_of-since.result) (c.hall.ensures ∙ sym c.go_on_from.ensures.hall) c.since_of-since.ensures)))
     (heard_again c.args.recorded.now after c.go_on_from.ensures.hall c.go_on_from.ensures.recorder so_far)
 
 pub returns-in-Err-clause-archived : goal.returns-in-Err-clause-archived

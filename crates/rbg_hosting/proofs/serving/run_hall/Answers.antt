@@ -12,9 +12,9 @@ returns-in-Ok-clause-ended g c starts past run =
 pub returns-in-Ok-clause-archived : goal.returns-in-Ok-clause-archived
 returns-in-Ok-clause-archived g c starts matches past since so_far =
     let over = c.in-Ok.ensures.serves _ [] (all_tell _ _ (λ line so_far. tt {0}) c.args.lines.now) c.requires.clock in
-    archived_so since so_far over.clock_tells over.serves
+    archived_so _ since so_far over.clock_tells over.serves
 
 pub returns-in-Err-clause-archived : goal.returns-in-Err-clause-archived
 returns-in-Err-clause-archived g c starts matches past since so_far =
     let over = c.in-Err.ensures.serves _ [] (all_tell _ _ (λ line so_far. tt {0}) c.args.lines.now) c.requires.clock in
-    is_stopped c.fault_of.result (archived_until c.in-Err.error since so_far over.clock_tells over.serves) c.fault_of.ensures
+    is_stopped c.fault_of.result (archived_until _ c.in-Err.error since so_far over.clock_tells over.serves) c.fault_of.ensures
