@@ -1,6 +1,6 @@
 -- A hall hears what its logs hold.
 use Rattle.rbg_base.proofs.Common.{◌≡◌, ℕ, zero, suc, ◌+◌, ◌-◌, ◌<◌, ◌≤◌, ◌&&◌, List, [], ◌∷◌, ◌++◌, All, Bool, true, false, Option, Some, None, Result, Ok, Err, MatchResult, if◌then◌else◌, option_map, length, length-map, map, take, drop, get_or, ap, sym, ◌∙◌, refl, subst, append_assoc, append-nil, map-append, take-append-drop, All-push, IfOk, add-one}
-use Rattle.std.proofs.lemmas.List.{drop_all, drop_more}
+use Rattle.std.proofs.lemmas.List.{drop_all, drop_more, take_more}
 use Rattle.std.proofs.lemmas.Simd.{map-map}
 use Rattle.rbg_base.proofs.CallerLemmas.{map-take_more}
 use Rattle.rbg_hall.proofs.Common.{AbstractHallEvent, AbstractTable, HallHears, HallState, event_of, sends}
@@ -29,14 +29,13 @@ use Rattle.rbg_hosting.proofs.RecordedLemmas.{StoppedSo, has_archived, heard_nex
 -- a hall that has heard so many of some events hears the next one
 pub one_heard : {A : Type 0} {told : A → List Handed → Type 0} {starts : List AbstractTable} {matches : ℕ} {before after : Recorder A} {old new : HallState} {queues queued : List (List ℕ)} (earlier : List AbstractHallEvent) (events : List HallEvent) (index : ℕ) (read : HallEvent) →
     index < length events →
-    read ≡ get_or events index read →
     HasHeard told starts matches before (earlier ++ map event_of (take index events)) old queues →
-    HallHears old (event_of read) new queues queued × HandsOver told before after old.tables new.tables →
+    HallHears old (event_of (get_or events index read)) new queues queued × HandsOver told before after old.tables new.tables →
     HasHeard told starts matches after (earlier ++ map event_of (take (index + 1) events)) new queued
-one_heard {told = told} {starts = starts} {matches = matches} {after = after} {new = new} {queued = queued} earlier events index read within is so_far hears =
+one_heard {told = told} {starts = starts} {matches = matches} {after = after} {new = new} {queued = queued} earlier events index read within so_far hears =
     subst (λ all. HasHeard told starts matches after all new queued)
-    (append_assoc earlier (map event_of (take index events)) (event_of read ∷ [])
-    ∙ ap (λ all. earlier ++ all) (sym (map-take_more event_of events index read within is)))
+    (append_assoc earlier (map event_of (take index events)) (event_of (get_or events index read) ∷ [])
+    ∙ ap (λ all. earlier ++ all) (sym (ap (map event_of) (take_more events index read within) ∙ map-append event_of (take index events) (get_or events index read ∷ []))))
     (heard_next so_far hears.0 hears.1)
 
 -- it stops at one of them
@@ -140,11 +139,11 @@ all_heard {told = told} {starts = starts} {matches = matches} {recorder = record
 
 -- what is left of the logs at the next match
 pub past_next : (number line many : ℕ) (players : List ℕ) (pasts : List Past) (index : ℕ) (past : Past) →
-    index < length players → index < length pasts → many ≡ get_or players index many → past ≡ get_or pasts index past →
+    index < length players → index < length pasts → many ≡ get_or players index 0 → past ≡ get_or pasts index past →
     past_from number line (drop index players) (pasts_in (drop index pasts))
     ≡ past_of number line many (past_in_code past) ++ past_from (number + 1) (line + many) (drop (index + 1) players) (pasts_in (drop (index + 1) pasts))
 past_next number line many players pasts index past within_players within_pasts of_players of_pasts =
-    ap (λ them. past_from number line them (pasts_in (drop index pasts))) (drop_more players index many within_players ∙ ap (λ n. n ∷ drop (index + 1) players) (sym of_players))
+    ap (λ them. past_from number line them (pasts_in (drop index pasts))) (drop_more players index 0 within_players ∙ ap (λ n. n ∷ drop (index + 1) players) (sym of_players))
     ∙ ap (λ them. past_from number line (many ∷ drop (index + 1) players) (pasts_in them)) (drop_more pasts index past within_pasts ∙ ap (λ p. p ∷ drop (index + 1) pasts) (sym of_pasts))
 
 -- nothing is left after the last one

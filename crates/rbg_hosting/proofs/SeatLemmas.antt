@@ -13,7 +13,7 @@ none_placed tables players places none = ap (λ them. them ++ places_from tables
 -- then there are those of one match more
 pub one_placed : (tables : List TableState) (players : List ℕ) (index many : ℕ) (place : Place) (before after : List Place) →
     index < length players →
-    many ≡ get_or players index many →
+    many ≡ get_or players index 0 →
     place ≡ place_for (begun_at tables (index + 1)) (index + 1) →
     after ≡ before ++ replicate many place →
     after ++ places_from tables (index + 1 + 1) (drop (index + 1) players) ≡ before ++ places_from tables (index + 1) (drop index players)
@@ -21,7 +21,7 @@ one_placed tables players index many place before after within is placed added =
     ap (λ them. them ++ places_from tables (index + 1 + 1) (drop (index + 1) players)) added
     ∙ append_assoc before (replicate many place) (places_from tables (index + 1 + 1) (drop (index + 1) players))
     ∙ ap (λ (one : Place). before ++ (replicate many one ++ places_from tables (index + 1 + 1) (drop (index + 1) players))) placed
-    ∙ ap (λ left. before ++ places_from tables (index + 1) left) (sym (drop_more players index many within ∙ ap (λ n. n ∷ drop (index + 1) players) (sym is)))
+    ∙ ap (λ left. before ++ places_from tables (index + 1) left) (sym (drop_more players index 0 within ∙ ap (λ n. n ∷ drop (index + 1) players) (sym is)))
 
 -- and at last all
 pub all_placed : (tables : List TableState) (players : List ℕ) (index : ℕ) (places : List Place) → length players ≤ index → places ++ places_from tables (index + 1) (drop index players) ≡ places_from tables 1 players → places ≡ places_from tables 1 players

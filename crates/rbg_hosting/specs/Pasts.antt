@@ -13,7 +13,7 @@ use Rattle.rbg_wire.specs.Messages.{join_message, spelling}
 
 -- the name of the log of the match of this number
 abbrev pub log_name : (name : List ℕ) → (number : ℕ) → List ℕ
-log_name name number = name ++ codes "." ++ decimal number
+log_name name number = name ++ (codes "." ++ decimal number)
 
 -- What a log holds, of which these bytes are known.
 --   not_begun: no whole line: the match is taken not to have begun.

@@ -29,7 +29,10 @@ pub(crate) struct Past {
 pub(crate) fn name_of(alloc: Global, name: &str, number: u64) -> Result<String, AllocError>
     ensures { IfOk result (λ log. string_bytes log ≡ log_name name.now number) }
 {
-    format!(in alloc; "{name}.{number}")
+    let ending = format!(in alloc; ".{number}")?;
+    let mut log = String::from_str(alloc, name)?;
+    log.push_str(ending.as_str())?;
+    Ok(log)
 }
 
 /// What the logs of the descriptions' matches hold. This process takes them.

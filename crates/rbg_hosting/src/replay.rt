@@ -1,5 +1,5 @@
 //! A hall hears what the logs of its matches hold.
-ghost use Rattle.std.specs.Prelude.{◌≡◌, ◌+◌, ◌<◌, ◌≤◌, ◌^◌, ◌++◌, ◌&&◌, [], nat_le, length, map, IfOk, IsTrue, OnOk};
+ghost use Rattle.std.specs.Prelude.{◌≡◌, ◌+◌, ◌<◌, ◌≤◌, ◌^◌, ◌++◌, ◌&&◌, [], nat_le, length, map, IfOk, IfSome, IsTrue, OnOk};
 ghost use Rattle.rbg_hall.specs.Events.{event_of as hall_event, sends};
 ghost use Rattle.rbg_hosting.specs.Pasts.{ended_on, heard_on, line_on, past_from, past_of, script_from, sent_by_each, sent_on};
 ghost use Rattle.rbg_hosting.specs.internal.Recorded.{HearsMore};
@@ -11,6 +11,7 @@ ghost use Rattle.rbg_wire.specs.Messages.{join_message, spelling};
 use crate::ServingFault;
 use crate::past::Past;
 use crate::recorded_hall::RecordedHall;
+use crate::seats::count_at;
 use rbg_hall::{HallEvent, HallOut};
 use rbg_network::Archive;
 use rbg_script::{Script, ScriptEvent};
@@ -33,14 +34,14 @@ pub(crate) fn replay_all<W: Log, A: Archive>(
 {
     let mut line: u64 = 0;
     for index in 0..pasts.len() {
-        let many = &players[index];
-        let Some(next) = line.checked_add(*many) else {
+        let many = count_at(players, index);
+        let Some(next) = line_after(line, many) else {
             return Err(ServingFault::Config);
         };
         let seats = Seats {
             number: index as u64 + 1,
             line,
-            players: *many,
+            players: many,
         };
         match replay(alloc, recorded, out, &pasts[index], seats) {
             Ok(()) => line = next,
@@ -48,6 +49,14 @@ pub(crate) fn replay_all<W: Log, A: Archive>(
         }
     }
     Ok(())
+}
+
+/// The line after those of so many players, if there is such a number.
+fn line_after(line: u64, many: u64) -> Option<u64>
+    ensures value { IfSome result (λ next. next ≡ line + many) }
+    ensures fits { IfSome result (λ _. line + many < 2 ^ 64) }
+{
+    line.checked_add(many)
 }
 
 /// The lines of a match.

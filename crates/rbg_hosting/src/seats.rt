@@ -1,5 +1,5 @@
 //! The players of a hall: how they are waited for, and what is reported of them.
-ghost use Rattle.std.specs.Prelude.{◌≡◌, ◌≤◌, ◌++◌, [], length, replicate, IfOk, OnOk};
+ghost use Rattle.std.specs.Prelude.{◌≡◌, ◌<◌, ◌≤◌, ◌++◌, [], length, replicate, slice_index_or, IfOk, OnOk};
 ghost use Rattle.rbg_hall.specs.Halls.{begun_at};
 ghost use Rattle.rbg_hall.specs.TableLimits.{lines_in_all};
 ghost use Rattle.rbg_hosting.specs.internal.Resuming.{place_for, places_from};
@@ -55,10 +55,18 @@ fn places_of<W: Log>(
     let mut places = Vec::new(alloc);
     for index in 0..players.len() {
         let number = index as u64 + 1;
-        let count = &players[index];
-        add_places(place_of(hall, number), *count, &mut places)?;
+        let count = count_at(players, index);
+        add_places(place_of(hall, number), count, &mut places)?;
     }
     Ok(places)
+}
+
+/// How many players the match at an index has.
+pub(crate) fn count_at(players: &[u64], index: usize) -> u64
+    requires { index < length players.now }
+    ensures { result ≡ slice_index_or players.now index 0 }
+{
+    players[index]
 }
 
 /// Adds so many places.

@@ -1,7 +1,8 @@
 -- One more log is read.
-use Rattle.std.proofs.Common.{ℕ, ◌+◌, ◌∙◌, List, Option, ap, length, string_bytes, subst, sym}
+use Rattle.std.proofs.Common.{ℕ, ◌+◌, ◌∙◌, List, Option, ap, length, refl, string_bytes, subst, sym}
 use Rattle.std.proofs.lemmas.List.{length_push}
 use Rattle.rbg_hosting.specs.Pasts.{AreLogs, log_name}
+use Rattle.rbg_hosting.specs.Pasts.AreLogs.{no_log}
 use Rattle.rbg_hosting.specs.internal.Resuming.{pasts_in}
 use Rattle.rbg_hosting.proofs.PastLemmas.{one_more_log, same_log}
 use Rattle.rbg_hosting.proofs.past.read_pasts.Goals as goal
@@ -17,3 +18,10 @@ loop-index-preserved g c =
           (c.loop-index.invariant.kept (log_name c.args.name.now (c.loop-index.index + 1))) c.in_ok-log.ensures c.in_ok-past.ensures.log));
       kept = λ name. c.take_past.ensures.kept name ∙ c.loop-index.invariant.kept name;
     }
+
+pub loop-index-init : goal.loop-index-init
+loop-index-init g c = record {
+  as_many = ap length c.in_ok-pasts.ensures.items;
+  logs = subst (λ items. AreLogs (λ number. g.F.Files.told c.args.files.now (log_name c.args.name.now number)) (pasts_in items)) (sym c.in_ok-pasts.ensures.items) no_log;
+  kept = λ name. refl;
+}

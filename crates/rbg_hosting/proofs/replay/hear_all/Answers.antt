@@ -4,7 +4,7 @@ use Rattle.rbg_hosting.proofs.replay.hear_all.Goals as goal
 
 pub loop-event-preserved : goal.loop-event-preserved
 loop-event-preserved g c starts matches earlier so_far =
-    one_heard earlier c.args.events.now c.loop-event.event-index c.event-item.result c.loop-event-test.true c.event-item.is (c.loop-event.invariant starts matches earlier so_far) c.in-Ok.ensures.hears
+    one_heard earlier c.args.events.now c.loop-event.event-index _ c.loop-event-test.true (c.loop-event.invariant starts matches earlier so_far) c.in-Ok.ensures.hears
 
 pub returns-in-Err : goal.returns-in-Err
 returns-in-Err g c starts matches earlier so_far =

@@ -1,6 +1,8 @@
 -- One more log is heard, or the hall stops there.
-use Rattle.std.proofs.Common.{arith, ◌+◌, ap, length, refl}
-use Rattle.rbg_hosting.proofs.PastLemmas.{all_heard, none_heard, part_heard, part_stopped, past_last, past_next, rest_stopped}
+use Rattle.std.proofs.Common.{arith, ◌+◌, ap, drop, length, refl, subst, sym}
+use Rattle.rbg_hosting.specs.Pasts.{past_from}
+use Rattle.rbg_hosting.specs.internal.Resuming.{pasts_in}
+use Rattle.rbg_hosting.proofs.PastLemmas.{HasHeardPart, all_heard, none_heard, part_heard, part_stopped, past_last, past_next, rest_stopped}
 use Rattle.rbg_hosting.proofs.replay.replay_all.Goals as goal
 
 pub loop-index-init : goal.loop-index-init
@@ -12,10 +14,12 @@ loop-index-init g c = record {
 pub loop-index-preserved : goal.loop-index-preserved
 loop-index-preserved g c = record {
   heard = λ starts matches earlier so_far.
-      part_heard
-      (past_next (c.loop-index.index + 1) c.loop-index.line c.index-players-index.result c.args.players.now c.args.pasts.now c.loop-index.index c.index-pasts-index.result
-      (omega (arith, c.requires, c.loop-index-test.true)) c.loop-index-test.true c.index-players-index.is c.index-pasts-index.is)
-      (c.loop-index.invariant.heard starts matches earlier so_far) (c.in-Ok.ensures starts matches);
+      subst (λ n. HasHeardPart g.A.Archive.handed starts matches c.replay.new.recorded.recorder earlier (past_from 1 0 c.args.players.now (pasts_in c.args.pasts.now))
+      (past_from (c.loop-index.index + 1 + 1) n (drop (c.loop-index.index + 1) c.args.players.now) (pasts_in (drop (c.loop-index.index + 1) c.args.pasts.now))) c.replay.new.recorded.hall.state c.replay.new.out) (sym c.in-Some.ensures.value)
+      (part_heard
+      (past_next (c.loop-index.index + 1) c.loop-index.line c.count_at-many.result c.args.players.now c.args.pasts.now c.loop-index.index c.index-pasts-index.result
+      (omega (arith, c.requires, c.loop-index-test.true)) c.loop-index-test.true c.count_at-many.ensures c.index-pasts-index.is)
+      (c.loop-index.invariant.heard starts matches earlier so_far) (c.in-Ok.ensures starts matches));
   nothing = λ none. let no_more = ap length none in absurd (omega (arith, no_more, c.loop-index-test.true));
 }
 
@@ -28,8 +32,8 @@ returns-in_default-clause-nothing g c = c.loop-index.invariant.nothing
 pub returns-in-Err-clause-hears : goal.returns-in-Err-clause-hears
 returns-in-Err-clause-hears g c starts matches earlier so_far =
     part_stopped _
-    (past_next (c.loop-index.index + 1) c.loop-index.line c.index-players-index.result c.args.players.now c.args.pasts.now c.loop-index.index c.index-pasts-index.result
-    (omega (arith, c.requires, c.loop-index-test.true)) c.loop-index-test.true c.index-players-index.is c.index-pasts-index.is)
+    (past_next (c.loop-index.index + 1) c.loop-index.line c.count_at-many.result c.args.players.now c.args.pasts.now c.loop-index.index c.index-pasts-index.result
+    (omega (arith, c.requires, c.loop-index-test.true)) c.loop-index-test.true c.count_at-many.ensures c.index-pasts-index.is)
     (c.loop-index.invariant.heard starts matches earlier so_far) (c.in-Err.ensures starts matches)
 
 pub returns-in-Err-clause-nothing : goal.returns-in-Err-clause-nothing

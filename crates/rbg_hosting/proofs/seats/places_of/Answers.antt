@@ -8,8 +8,8 @@ loop-index-init g c = none_placed c.args.hall.now.state.tables c.args.players.no
 
 pub loop-index-preserved : goal.loop-index-preserved
 loop-index-preserved g c =
-    one_placed c.args.hall.now.state.tables c.args.players.now c.loop-index.index c.index-players-index.result c.place_of.result c.loop-index.places.items c.add_places.new.places.items
-    c.loop-index-test.true c.index-players-index.is c.place_of.ensures c.in_ok-add_places.ensures
+    one_placed c.args.hall.now.state.tables c.args.players.now c.loop-index.index c.count_at-count.result c.place_of.result c.loop-index.places.items c.add_places.new.places.items
+    c.loop-index-test.true c.count_at-count.ensures c.place_of.ensures c.in_ok-add_places.ensures
     ∙ c.loop-index.invariant
 
 pub returns : goal.returns

@@ -42,5 +42,5 @@ returns-clause-archived g c config descriptions wants prepared empty =
     _ _ prepared.are counted
     (ap (λ them. past_from 1 0 c.as_slice-2.result.now (pasts_in them)) c.as_slice.ensures.value ∙ ap (λ them. past_from 1 0 them (pasts_in c.args.prepared.pasts.items)) (c.as_slice-2.ensures.value ∙ prepared.players_are))
     (on_ok c.go_on-served.result (λ over. over prepared.tables _ first) c.go_on-served.ensures.ended)
-    (subst (λ n. RunEnds g.A.Archive.handed g.N.Clock.Clock.told prepared.tables n _ c.go_on-served.new.recorded c.go_on-served.result) (fresh.1 ∙ ap (λ n. wanted_of wants n) counted) run)
+    (subst (λ n. RunEnds g.A.Archive.handed g.N.Clock.Clock.told prepared.tables n (past_from 1 0 c.as_slice-2.result.now (pasts_in c.as_slice.result.now)) c.go_on-served.new.recorded c.go_on-served.result) (fresh.1 ∙ ap (λ n. wanted_of wants n) counted) run)
     c.answer_of-answer.ensures)
