@@ -7,5 +7,5 @@ use Rattle.rbg_hosting.proofs.past.take_past.Goals as goal
 
 pub returns-in_ok-script-in-Whole-clause-log : goal.returns-in_ok-script-in-Whole-clause-log
 returns-in_ok-script-in-Whole-clause-log g c =
-    subst (λ name. IsLogOf (g.F.Files.told c.args.files.now name) (option_map script_of c.in_ok-script-in-Whole.script)) c.as_str-2.ensures
+    subst (λ name. IsLogOf (g.F.Files.told c.args.files.now name) (option_map script_of c.in_ok-script-in-Whole.script)) c.as_str-2.ensures.value
     (c.in_ok-script-in-Whole.ensures _ (subst (MayBe (g.F.Files.told c.args.files.now c.as_str-2.result.now)) (sym c.as_slice.ensures.value) c.in_ok-bytes.ensures.read.1))
