@@ -37,11 +37,11 @@ returns-clause-prepared g c =
 pub returns-clause-as_many : goal.returns-clause-as_many
 returns-clause-as_many g c =
     let same : length c.in_ok-players.players.items ≡ length c.in_ok-pasts.pasts.items =
-        ap length c.in_ok-players.ensures
-        ∙ length-map c.as_slice-2.result.now (λ (table : Table). seats_of table.game)
-        ∙ ap length c.as_slice-2.ensures.value
-        ∙ sym (length-map c.in_ok-tables.tables.items start_of)
-        ∙ as_many c.in_ok-config.config (texts_of c.args.descriptions.now) (starts_of c.in_ok-tables.tables.items) c.in_ok-tables.ensures.tables
-        ∙ texts_count c.args.descriptions.now
-        ∙ sym c.in_ok-pasts.ensures.as_many in
+    ap length c.in_ok-players.ensures
+    ∙ length-map c.as_slice-2.result.now (λ (table : Table). seats_of table.game)
+    ∙ ap length c.as_slice-2.ensures.value
+    ∙ sym (length-map c.in_ok-tables.tables.items start_of)
+    ∙ as_many c.in_ok-config.config (texts_of c.args.descriptions.now) (starts_of c.in_ok-tables.tables.items) c.in_ok-tables.ensures.tables
+    ∙ texts_count c.args.descriptions.now
+    ∙ sym c.in_ok-pasts.ensures.as_many in
     omega (arith, same)
