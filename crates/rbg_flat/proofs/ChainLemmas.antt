@@ -92,7 +92,7 @@ module _ (game : AbstractGame) (numbered : IsNumbered game.rules) where
       by_step q s middle f w p quiet follows applied more (holds plain is) = before_hold s f q w p (met_here s f q follows plain) (holds_here s q quiet (subst (λ (t : AbstractState). Applies game q s t) is applied)) (subst (λ (t : AbstractState). IsMet leaping game t (after q) w p) is more)
 
   -- Shifts run along.
-  shift_quiet : (q d : ℕ) → HasAction game.rules q (shift d) → ¬ IsModifierAt game.rules q
+  pub shift_quiet : (q d : ℕ) → HasAction game.rules q (shift d) → ¬ IsModifierAt game.rules q
   shift_quiet q d stands other = not_so (ap is_modifier (one_action_at game.rules numbered q (shift d) other.action stands other.stands) ∙ other.modifies)
     where
       not_so : false ≡ true → ⊥

@@ -30,3 +30,4 @@ pub mod Finishings
 pub mod Stills
 mod Endings
 mod Walkings
+pub mod Crossings

@@ -496,7 +496,7 @@ impl Flat {
 }
 
 /// The vertex to which a direction leads; none if it leads nowhere.
-fn edge(game: &Game, vertex: Vertex, direction: Direction) -> Option<Vertex>
+pub(crate) fn edge(game: &Game, vertex: Vertex, direction: Direction) -> Option<Vertex>
     requires { vertex < length game.now.board.first }
     ensures is { result ≡ next game.now.board vertex direction }
     ensures there { IfSome result (λ to. to < length game.now.board.first) }
@@ -505,7 +505,7 @@ fn edge(game: &Game, vertex: Vertex, direction: Direction) -> Option<Vertex>
 }
 
 /// The direction of the shift at a position; none where something else stands.
-fn direction_of(game: &Game, position: Position) -> Option<Direction>
+pub(crate) fn direction_of(game: &Game, position: Position) -> Option<Direction>
     requires lawful { IsGame game.now }
     requires position { IsPositionIn game.now position }
     ensures some { IfSome result (λ direction. HasAction game.now.rules position (shift direction)) }

@@ -1,7 +1,7 @@
 //! At which vertices what is met is to be looked at, and at which it passes: it is no modifier, and valid there.
 ghost use Rattle.std.specs.Prelude.{◌≡◌, ◌<◌, ◌≤◌, ◌↔◌, ◌+◌, ◌*◌, [], ◌∷◌, ℕ, length, slice_get, Some, IsTrue};
 ghost use Rattle.std.specs.Int.{bit_at};
-ghost use Rattle.rbg_rules.specs.Meaning.{IsGame, IsPatternAt, positions_of, IsStateOf};
+ghost use Rattle.rbg_rules.specs.Meaning.{shift, HasAction, IsGame, IsPatternAt, positions_of, IsStateOf};
 ghost use Rattle.rbg_shifts.specs.Limits.{row_words};
 ghost use Rattle.rbg_flat.specs.Chains.{Holds};
 ghost use Rattle.rbg_flat.specs.Paths.{ArePathsOf, IsKind};
@@ -10,10 +10,11 @@ ghost use Rattle.rbg_flat.specs.internal.Passing.{IsOneOf, IsToTry};
 ghost use Rattle.rbg_flat.specs.internal.Leading.{IsOnBoard, IsPositionIn};
 ghost use Rattle.rbg_flat.specs.internal.Setting.{IsLawfulSetting, IsToTryIn};
 
+use crate::flat::{direction_of, edge};
 use crate::paths::{Kind, Paths};
 use crate::setting::Setting;
 use crate::words::{full_word, lowest, unit_word, without};
-use rbg_base::{Piece, Position, Vertex};
+use rbg_base::{Direction, Piece, Position, Vertex};
 use rbg_rules::{Action, Game};
 use rbg_state::{SemiState, Trial};
 
@@ -179,7 +180,8 @@ pub(crate) fn held(setting: &Setting, position: Position, column: usize, word: u
     match setting.paths.facts(setting.game, position).kind {
         // what is to be looked at passes
         Kind::On | Kind::OnEither | Kind::Comparison => word,
-        Kind::Modifier | Kind::Pattern | Kind::Plain => {
+        Kind::Plain => plain_passing(setting.game, setting.state, position, column, word),
+        Kind::Modifier | Kind::Pattern => {
             passing(setting.game, setting.state, position, column, word)
         }
     }
@@ -229,4 +231,83 @@ fn passing(game: &Game, state: &SemiState, position: Position, column: usize, wo
         }
     }
     passed
+}
+
+/// As `passing`, where mostly a shift stands: it passes where its edge is.
+#[inline(never)]
+fn plain_passing(
+    game: &Game,
+    state: &SemiState,
+    position: Position,
+    column: usize,
+    word: u64,
+) -> u64
+    requires lawful { IsGame game.now }
+    requires fits { IsStateOf game.now state.now.state }
+    requires position { IsPositionIn game.now position }
+    requires plain { ¬ IsPatternAt game.now.rules position }
+    requires board { IsOnBoard game.now column word }
+    ensures within { (b : ℕ) → bit_at result b ≡ 1 → bit_at word b ≡ 1 }
+    ensures told { (b : ℕ) → b < 64 → bit_at word b ≡ 1 → (bit_at result b ≡ 1)
+        ↔ Holds game.now state.now.state (column * 64 + b) position }
+{
+    match direction_of(game, position) {
+        Some(direction) => crossing(game, state, position, direction, column, word),
+        None => passing(game, state, position, column, word),
+    }
+}
+
+/// The bits of a word from whose vertices the edge of a shift leads on.
+#[inline(always)]
+fn crossing(
+    game: &Game,
+    state: &SemiState,
+    position: Position,
+    direction: Direction,
+    column: usize,
+    word: u64,
+) -> u64
+    requires lawful { IsGame game.now }
+    requires shift { HasAction game.now.rules position (shift direction) }
+    requires board { IsOnBoard game.now column word }
+    ensures within { (b : ℕ) → bit_at result b ≡ 1 → bit_at word b ≡ 1 }
+    ensures told { (b : ℕ) → b < 64 → bit_at word b ≡ 1 → (bit_at result b ≡ 1)
+        ↔ Holds game.now state.now.state (column * 64 + b) position }
+{
+    let mut passed = word;
+    let mut rest = word;
+    while rest != 0 {
+        let bit = lowest(rest);
+        rest = without(rest, bit);
+        if !crosses(
+            game,
+            state,
+            column as Vertex * 64 + bit,
+            position,
+            direction,
+        ) {
+            passed = without(passed, bit);
+        }
+    }
+    passed
+}
+
+/// Whether the edge of a shift leads on from a vertex.
+#[inline(always)]
+fn crosses(
+    game: &Game,
+    _state: &SemiState,
+    vertex: Vertex,
+    _position: Position,
+    direction: Direction,
+) -> bool
+    requires lawful { IsGame game.now }
+    requires shift { HasAction game.now.rules _position (shift direction) }
+    requires vertex { vertex < length game.now.board.first }
+    ensures { IsTrue result ↔ Holds game.now _state.now.state vertex _position }
+{
+    match edge(game, vertex, direction) {
+        Some(_) => true,
+        None => false,
+    }
 }

@@ -28,8 +28,8 @@ const TWO: &str = "[e,e]";
 
 const CHOICE: &str = "->white {! ([w] + [e]) {}} ->black";
 
-// A heavy pattern and a light one, and a heavy one beside words that end. Patterns are asked in the order of the queue, each
-// when its pair is taken, and all of them before an end answers yes; an end does so before modifiers.
+// A heavy pattern and a light one, and a heavy one beside words that end. What was met last is asked first, and all patterns
+// before an end answers yes; an end does so before modifiers.
 const HEAVY_FIRST: &str = "->white {! ({! [w] {}} + {! {e}}) {}} ->black";
 
 const LIGHT_FIRST: &str = "->white {! ({! {e}} + {! [w] {}}) {}} ->black";
@@ -49,9 +49,9 @@ const EXAMPLES: [Example; 13] = [
     (ONE, CHOICE, 3, 1, Err(Over::Deep), 1, 2),
     (ONE, CHOICE, 3, 0, Err(Over::Deep), 1, 2),
     (ONE, CHOICE, 1, 1, Err(Over::Deep), 1, 2),
-    (TWO, HEAVY_FIRST, 2, 1, Err(Over::Deep), 2, 3),
-    (TWO, LIGHT_FIRST, 2, 1, Err(Over::Wide), 2, 3),
-    (TWO, AFTER_A_SHIFT, 2, 1, Err(Over::Deep), 2, 4),
+    (TWO, HEAVY_FIRST, 2, 1, Err(Over::Wide), 2, 3),
+    (TWO, LIGHT_FIRST, 2, 1, Err(Over::Deep), 2, 3),
+    (TWO, AFTER_A_SHIFT, 2, 1, Err(Over::Deep), 2, 3),
     (TWO, BESIDE_AN_END, 2, 1, Err(Over::Deep), 2, 3),
     (ONE, MAY_END, 1, 1, Ok(true), 1, 1),
 ];
