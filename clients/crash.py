@@ -30,7 +30,6 @@ from typing import Optional
 from crash_hall import crash_halls, race
 from faults import check_failures, check_faults
 from served import PATIENCE, Match, Wrong, end, free_port, is_good, listen
-from storm_open import OPEN
 from storm_players import Stored
 from storm_referee import Trial
 
@@ -193,12 +192,8 @@ def crash_more(words: argparse.Namespace, folder: Path) -> None:
     """Kills halls, and lets two processes go on from one log; says how it went."""
     trial = Trial(words.rbg, words.games[0].parent, folder, memory=16)
     print(crash_halls(trial, words.games, words.halls, words.seed), flush=True)
-    try:
-        print(f"two processes would go on from one log: {race(trial, Stored(words.rbg, words.games[-1]))}", flush=True)
-    except Wrong as wrong:
-        if "two_resumers" not in OPEN:
-            raise
-        print(f"two processes would go on from one log, which is known to be open: {wrong}", flush=True)
+    for kind in ("serve", "hall"):
+        print(f"two processes would go on from one log of {kind}: {race(trial, kind, Stored(words.rbg, words.games[-1]))}", flush=True)
 
 
 def main() -> int:

@@ -82,7 +82,7 @@ def storms(trial: Trial, size: Size) -> dict[str, Make]:
 
 
 def disks(trial: Trial, size: Size) -> dict[str, Make]:
-    kinds = [storm_disks.Logged, storm_disks.Synced, storm_disks.Resumed, storm_disks.Hall]
+    kinds = [storm_disks.Logged, storm_disks.Synced, storm_disks.Resumed, storm_disks.Hall, storm_disks.ResumedHall]
     return {
         "faults": lambda it: storm_disks.fail(it, TOP, kinds, size.runs, size.seed),
         "kept": lambda it: storm_disks.fail(it, TOP, [storm_disks.Kept, storm_disks.KeptHall], size.runs // 4, size.seed),

@@ -147,9 +147,14 @@ class Resumed(Disk):
 
     def begin(self) -> None:
         super().begin()
-        moves = [(seat, move) for seat, move in self.stored.moves if seat]
-        lines = [f"p {seat} {10 * at} {(move + bytes(1)).hex()}\n" for at, (seat, move) in enumerate(moves[: len(moves) // 2])]
-        self.log.write_text("config 60000 3 0\n" + "".join(lines) + "p 1")  # the last line was cut off
+        self.log.write_text(half_log(self.stored))
+
+
+def half_log(stored: Stored) -> str:
+    """The log of a match with half of its moves, whose last line was cut off."""
+    moves = [(seat, move) for seat, move in stored.moves if seat]
+    lines = [f"p {seat} {10 * at} {(move + bytes(1)).hex()}\n" for at, (seat, move) in enumerate(moves[: len(moves) // 2])]
+    return "config 60000 3 0\n" + "".join(lines) + "p 1"
 
 
 class Hall(Disk):
@@ -164,10 +169,13 @@ class Hall(Disk):
     def judge(self, fault: Fault, ended: Ended) -> str:
         if ended.status:
             return super().judge(fault, ended)
+        self.check_records(ended)
+        return "played"
+
+    def check_records(self, ended: Ended) -> None:
         for match, record in records(ended.printed).items():
             check_record(self.trial, self.stored.game, Path(f"{self.log}.{match}"), record)
             expect(outcome(record) == self.stored.outcome, "the match ended in another way")
-        return "played"
 
     def go_on(self) -> None:
         whole = self.log
@@ -175,6 +183,23 @@ class Hall(Disk):
             self.log = Path(f"{whole}.{match}")
             super().go_on()
         self.log = whole
+
+
+class ResumedHall(Hall):
+    """A hall that goes on from its logs: one match has half of its moves, and the other one hasn't begun."""
+
+    def words(self) -> list[str]:
+        return ["hall", *[str(self.stored.game)] * 2, "--rounds", "4294967295", "--resume", str(self.log)]
+
+    def begin(self) -> None:
+        super().begin()
+        Path(f"{self.log}.1").write_text(half_log(self.stored))
+        Path(f"{self.log}.2").touch()
+
+    def go_on(self) -> None:
+        again = self.run()
+        expect(again.status == 0 and len(records(again.printed)) == 2, f"it doesn't go on: {again}")
+        self.check_records(again)
 
 
 class KeptHall(Hall):

@@ -4,6 +4,7 @@ import random
 import socket
 import time
 from contextlib import closing
+from pathlib import Path
 from typing import Callable
 
 from storm_clock import FOR_EIGHT
@@ -105,19 +106,29 @@ def takes_nothing(trial: Trial) -> str:
     game = trial.folder / "long.rbg"
     text = trial.game("tictactoe").read_text()
     game.write_text(text + "// " + "a long remark " * 18_000 + "\n")
-    with Served(trial, ["serve", str(game), "--turn", "300", "--minutes", "2"]) as served, socket.socket() as deaf:
+    took = {kind: deaf_player(trial, kind, game) for kind in ("serve", "hall")}
+    expect(all(9 < it < 15 for it in took.values()), f"the records came after so many seconds: {took}")
+    return "the record came " + ", ".join(f"{it:.1f} s after the end of {kind}" for kind, it in took.items())
+
+
+def deaf_player(trial: Trial, kind: str, game: Path) -> float:
+    """How many seconds after the end of a match its record is printed, whose second player takes nothing."""
+    match = int(kind == "hall")
+    with Served(trial, [kind, str(game), "--turn", "300", "--minutes", "2"]) as served, socket.socket() as deaf:
         with closing(Loop()) as loop:
-            first = Player(loop, served.port, [])
+            first = Player(loop, served.port, [], match)
+            loop.run(lambda: False, 0.2)  # so that it has seat 1
             deaf.setsockopt(socket.SOL_SOCKET, socket.SO_RCVBUF, 2048)
             deaf.setsockopt(socket.IPPROTO_TCP, socket.TCP_MAXSEG, 536)
             deaf.connect(("127.0.0.1", served.port))
+            deaf.sendall(b"H1\0" * match)
             expect(loop.run(lambda: first.is_over, SOON), "no end")
             began = time.monotonic()
             ended = served.wait()
             took = time.monotonic() - began
-    expect(ended.status == 0 and outcome(ended.printed) == "E1 1" and "seat 2 took nothing for 10 seconds" in ended.reported, ended)
-    expect(9 < took < 15, f"the record came {took:.1f} s after the end")
-    return f"the record came {took:.1f} s after the end"
+    record = ended.printed.removeprefix("match 1\n")
+    expect(ended.status == 0 and outcome(record) == "E1 1" and "seat 2 took nothing for 10 seconds" in ended.reported, ended)
+    return took
 
 
 def flooders(trial: Trial) -> str:

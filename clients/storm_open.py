@@ -1,9 +1,4 @@
 """Trials that are known to fail until what they ask for is in the program. Each is made all the same, and says so once it
 doesn't fail any more: then its name is to be taken off."""
 
-OPEN = {
-    # records of halls in a folder, and halls that go on
-    "kept_by_hall",
-    "substitutes",
-    "hall_goes_on",
-}
+OPEN: set[str] = set()

@@ -37,6 +37,8 @@ pub struct Stream {
     pub bytes: Vec<u8>,
     /// Whether the stream ends after its bytes. Else nothing more comes.
     pub ends: bool,
+    /// Whether nobody sees its end who doesn't read it.
+    pub is_unseen: bool,
 }
 
 /// What standard input gives after its bytes.
@@ -110,7 +112,7 @@ enum Target<'a> {
     Text { name: &'a [u8] },
     Input,
     File { name: &'a [u8] },
-    Stream { ends: bool },
+    Stream { ends: bool, is_unseen: bool },
 }
 
 /// What was read so far: texts and cases, and the bytes of the part that is being read.
@@ -182,9 +184,20 @@ impl<'a> Reader<'a> {
         } else if let Some(name) = line.strip_prefix(b"file ") {
             self.target = Target::File { name };
         } else if line == b"stream".as_slice() {
-            self.target = Target::Stream { ends: false };
+            self.target = Target::Stream {
+                ends: false,
+                is_unseen: false,
+            };
         } else if line == b"stream that ends".as_slice() {
-            self.target = Target::Stream { ends: true };
+            self.target = Target::Stream {
+                ends: true,
+                is_unseen: false,
+            };
+        } else if line == b"stream that ends unseen".as_slice() {
+            self.target = Target::Stream {
+                ends: true,
+                is_unseen: true,
+            };
         } else {
             return Ok(false);
         }
@@ -221,7 +234,11 @@ impl<'a> Reader<'a> {
             (Target::Text { name }, _) => self.texts.push(Text { name, bytes })?,
             (Target::Input, Some(case)) => case.input = bytes,
             (Target::File { name }, Some(case)) => case.files.push(Text { name, bytes })?,
-            (Target::Stream { ends }, Some(case)) => case.streams.push(Stream { bytes, ends })?,
+            (Target::Stream { ends, is_unseen }, Some(case)) => case.streams.push(Stream {
+                bytes,
+                ends,
+                is_unseen,
+            })?,
             _ => {}
         }
         Ok(())

@@ -20,6 +20,7 @@
 //! | `no memory for NAME` | where the case reads this file, memory is refused |
 //! | `stream` | what comes over a connection of the case begins; what follows is its bytes, and then nothing comes |
 //! | `stream that ends` | the same, but after its bytes the stream ends |
+//! | `stream that ends unseen` | the same, but only who reads it sees that |
 //! | `text NAME` | a text begins, which later lines can use; what follows is its bytes |
 //! | `\|TEXT` | adds the text and a line feed |
 //! | `+TEXT` | adds the text |

@@ -17,6 +17,8 @@ pub struct MemoryStream {
     outgoing: Channel,
     /// Whether the other end stays open, though nobody holds it.
     stays_open: bool,
+    /// Whether nobody sees its end who doesn't read it.
+    is_unseen: bool,
 }
 
 /// Connections in memory. Where a program has no other end in the same process, it gets a stream of the case.
@@ -137,6 +139,7 @@ impl<'a> MemoryNetwork<'a> {
             incoming: Rc::new(self.alloc, incoming)?,
             outgoing,
             stays_open: !stream.ends,
+            is_unseen: stream.is_unseen,
         })
     }
 }
@@ -190,7 +193,7 @@ impl<'a> Network for MemoryNetwork<'a> {
     }
 
     fn is_closed(&mut self, stream: &MemoryStream) -> bool {
-        stream.has_ended()
+        !stream.is_unseen && stream.has_ended()
     }
 
     fn connect(&mut self, _port: u16) -> io::Result<MemoryStream> {
@@ -203,11 +206,13 @@ impl<'a> Network for MemoryNetwork<'a> {
             incoming: there.clone()?,
             outgoing: back.clone()?,
             stays_open: false,
+            is_unseen: false,
         })?;
         Ok(MemoryStream {
             incoming: back,
             outgoing: there,
             stays_open: false,
+            is_unseen: false,
         })
     }
 

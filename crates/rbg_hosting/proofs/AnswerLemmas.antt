@@ -1,10 +1,14 @@
 -- What comes of a hall that was served.
-use Rattle.rbg_base.proofs.Common.{◌≡◌, ℕ, Bool, true, false, List, [], Result, Ok, Err, IfOk, OnOk, length, length-replicate, replicate, ap, sym, ◌∙◌, refl, subst}
-use Rattle.rbg_hall.proofs.Common.{AbstractTable, HallState, HeldHall, IsNewHall}
+use Rattle.rbg_base.proofs.Common.{◌≡◌, ℕ, Bool, true, false, List, [], ◌++◌, Option, Result, Ok, Err, IfOk, OnOk, length, length-replicate, replicate, ap, sym, ◌∙◌, refl, subst}
+use Rattle.rbg_hall.proofs.Common.{AbstractHallEvent, AbstractTable, HallState, HeldHall}
 use Rattle.rbg_match.specs.declared.config.Config.{Config}
 use Rattle.rbg_network.specs.Archives.{Handed, is_any_lost}
 use Rattle.rbg_referee.specs.declared.answer.Answer.{Answer}
 use Rattle.rbg_hosting.specs.Archives.{IsArchivedRun, wanted_of}
+use Rattle.rbg_script.specs.Scripts.{AbstractScript}
+use Rattle.rbg_hosting.specs.Moments.{GoesOnAfter, HearsPast}
+use Rattle.rbg_hosting.specs.Moments.HearsPast.{all}
+use Rattle.rbg_hosting.specs.Pasts.{past_in}
 use Rattle.rbg_hosting.specs.Records.{AreHallsRecords, HasEnded}
 use Rattle.rbg_hosting.specs.Served.{HasOutcome, IsArchivedHall, IsOutcome, status_for}
 use Rattle.rbg_hosting.specs.Served.IsOutcome.{ended, stopped}
@@ -12,26 +16,30 @@ use Rattle.rbg_hosting.specs.Tables.{AreTablesOf}
 use Rattle.rbg_hosting.specs.declared.fault.ServingFault.{ServingFault}
 use Rattle.rbg_hosting.specs.declared.recorded_hall.RecordedHall.{RecordedHall}
 use Rattle.rbg_hosting.specs.declared.recorder.Recorder.{Recorder}
-use Rattle.rbg_hosting.specs.internal.Prepared.{IsPrepared}
 use Rattle.rbg_hosting.specs.internal.Recorded.{AnswersRecords, AnswersServed, ArePlaces, HasArchived, IsFresh, RunEnds, places}
 
+-- what holds of a success leads to something else
+pub on_ok : {U E : Type 0} {P Q : Type 0} (result : Result U E) → (P → Q) → OnOk result P → OnOk result Q
+on_ok (Ok _) leads known = leads known
+on_ok (Err _) leads known = tt {0}
+
 -- the records of a hall that was served to its end
-pub records_printed : {W A U : Type 0} (served : Result U ServingFault) (result : Result Answer ServingFault) (recorded : RecordedHall W A) (config : Config) (descriptions : List (List ℕ)) (wants : Bool) (hall : HeldHall W) (queues : List (List ℕ)) (matches : ℕ) (noted : List Bool) →
-    IsPrepared config descriptions wants hall queues matches noted →
-    OnOk served ((starts : List AbstractTable) → IsNewHall starts hall queues → HasEnded starts recorded.hall.state) →
+pub records_printed : {W A U : Type 0} (served : Result U ServingFault) (result : Result Answer ServingFault) (recorded : RecordedHall W A) (config : Config) (descriptions : List (List ℕ)) (tables : List AbstractTable) (matches : ℕ) →
+    AreTablesOf config descriptions tables →
+    length tables ≡ matches →
+    OnOk served (HasEnded tables recorded.hall.state) →
     AnswersServed (AnswersRecords matches recorded) recorded.recorder.lost served result →
     IfOk result (λ answer. AreHallsRecords config descriptions answer.text.items)
-records_printed (Err fault) result recorded config descriptions wants hall queues matches noted prepared over answers =
+records_printed (Err fault) result recorded config descriptions tables matches are as_many over answers =
     subst (λ (one : Result Answer ServingFault). IfOk one (λ answer. AreHallsRecords config descriptions answer.text.items)) (sym answers) (tt {0})
-records_printed (Ok _) (Err fault) recorded config descriptions wants hall queues matches noted prepared over answers = tt {0}
-records_printed (Ok _) (Ok answer) recorded config descriptions wants hall queues matches noted prepared over answers =
-    let has_ended = over prepared.tables prepared.is in
+records_printed (Ok _) (Err fault) recorded config descriptions tables matches are as_many over answers = tt {0}
+records_printed (Ok _) (Ok answer) recorded config descriptions tables matches are as_many over answers =
     record {
-      tables = prepared.tables;
-      are = prepared.are;
+      tables = tables;
+      are = are;
       state = recorded.hall.state;
-      ended = has_ended;
-      printed_so = answers.0 prepared.tables prepared.as_many has_ended;
+      ended = over;
+      printed_so = answers.0 tables as_many over;
     }
 
 -- a recorder that has handed over nothing
@@ -48,51 +56,52 @@ fresh_recorder told recorder archive noted wants matches of_archive of_noted of_
     )
 
 -- what was handed to the archive, with its run
-archived_hall : {A : Type 0} {told : A → List Handed → Type 0} (config : Config) (descriptions : List (List ℕ)) (wants : Bool) (tables : List AbstractTable) (matches places_before : ℕ) (recorder : Recorder A) {state : HallState} →
+archived_hall : {A : Type 0} {told : A → List Handed → Type 0} (config : Config) (descriptions : List (List ℕ)) (wants : Bool) (tables : List AbstractTable) (matches : ℕ) (events : List AbstractHallEvent) (recorder : Recorder A) {state : HallState} →
     AreTablesOf config descriptions tables →
     length tables ≡ matches →
-    places_before ≡ wanted_of wants matches →
-    (archived : HasArchived told tables places_before recorder state) →
-    IsArchivedHall config descriptions wants tables state archived.handed
-archived_hall config descriptions wants tables matches places_before recorder {state} are as_many placed archived = record {
+    (archived : HasArchived told tables (wanted_of wants matches) events recorder state) →
+    IsArchivedHall config descriptions wants tables events state archived.handed
+archived_hall config descriptions wants tables matches events recorder {state} are as_many archived = record {
   are = are;
-  events = archived.events;
   queues = archived.queues;
-  run = subst (λ n. IsArchivedRun tables n archived.events state archived.queues archived.handed) (placed ∙ ap (wanted_of wants) (sym as_many)) archived.run;
+  run = subst (λ n. IsArchivedRun tables n events state archived.queues archived.handed) (ap (wanted_of wants) (sym as_many)) archived.run;
 }
 
 -- what comes of it
-pub outcome_so : {W A U : Type 0} (told : A → List Handed → Type 0) (served : Result U ServingFault) (result : Result Answer ServingFault) (before : Recorder A) (recorded : RecordedHall W A) (config : Config) (descriptions : List (List ℕ)) (wants : Bool) (hall : HeldHall W) (queues : List (List ℕ)) (matches : ℕ) (noted : List Bool) →
-    (prepared : IsPrepared config descriptions wants hall queues matches noted) →
-    OnOk served ((starts : List AbstractTable) → IsNewHall starts hall queues → HasEnded starts recorded.hall.state) →
-    RunEnds told prepared.tables before recorded served →
-    places before ≡ wanted_of wants matches →
+pub outcome_so : {W A C U : Type 0} (told : A → List Handed → Type 0) (clock : C → List ℕ → Type 0) (served : Result U ServingFault) (result : Result Answer ServingFault) (recorded : RecordedHall W A) (config : Config) (descriptions : List (List ℕ)) (pasts : List (Option AbstractScript)) (wants : Bool) (tables : List AbstractTable) (matches : ℕ) (past : List AbstractHallEvent) →
+    AreTablesOf config descriptions tables →
+    length tables ≡ matches →
+    past ≡ past_in tables pasts →
+    OnOk served (HasEnded tables recorded.hall.state) →
+    RunEnds told clock tables (wanted_of wants matches) past recorded served →
     AnswersServed (AnswersRecords matches recorded) recorded.recorder.lost served result →
-    HasOutcome told config descriptions wants recorded.recorder.archive result
-outcome_so told (Err fault) result before recorded config descriptions wants hall queues matches noted prepared over run placed answers =
-    subst (λ (one : Result Answer ServingFault). HasOutcome told config descriptions wants recorded.recorder.archive one) (sym answers)
+    HasOutcome told clock config descriptions pasts wants recorded.recorder.archive result
+outcome_so told clock (Err fault) result recorded config descriptions pasts wants tables matches past are as_many is_past over run answers =
+    subst (λ (one : Result Answer ServingFault). HasOutcome told clock config descriptions pasts wants recorded.recorder.archive one) (sym answers)
     (record {
       handed = run.archived.handed;
       account = run.archived.has.account;
-      outcome = stopped prepared.tables run.state fault
-          (archived_hall config descriptions wants prepared.tables matches (places before) recorded.recorder prepared.are prepared.as_many placed run.archived)
+      outcome = stopped tables run.events run.state fault
+          (archived_hall config descriptions wants tables matches run.events recorded.recorder are as_many run.archived)
+          (subst (λ p. HearsPast clock tables p run.events) is_past run.hears)
           (λ lost. run.device (run.archived.has.lost ∙ lost));
     })
-outcome_so told (Ok _) (Err fault) before recorded config descriptions wants hall queues matches noted prepared over run placed answers = record {
-  handed = run.handed;
-  account = run.has.account;
-  outcome = stopped prepared.tables recorded.hall.state fault
-      (archived_hall config descriptions wants prepared.tables matches (places before) recorded.recorder prepared.are prepared.as_many placed run)
-      (λ lost. answers (run.has.lost ∙ lost));
+outcome_so told clock (Ok _) (Err fault) recorded config descriptions pasts wants tables matches past are as_many is_past over run answers = record {
+  handed = run.archived.handed;
+  account = run.archived.has.account;
+  outcome = stopped tables (past ++ run.later) recorded.hall.state fault
+      (archived_hall config descriptions wants tables matches (past ++ run.later) recorded.recorder are as_many run.archived)
+      (subst (λ p. HearsPast clock tables p (past ++ run.later)) is_past (all run.later run.goes_on))
+      (λ lost. answers (run.archived.has.lost ∙ lost));
 }
-outcome_so told (Ok _) (Ok answer) before recorded config descriptions wants hall queues matches noted prepared over run placed answers =
-    let has_ended = over prepared.tables prepared.is in
-    record {
-      handed = run.handed;
-      account = run.has.account;
-      outcome = ended prepared.tables recorded.hall.state answer
-          (archived_hall config descriptions wants prepared.tables matches (places before) recorded.recorder prepared.are prepared.as_many placed run)
-          has_ended.over
-          (answers.0 prepared.tables prepared.as_many has_ended)
-          (answers.1 ∙ ap status_for run.has.lost);
-    }
+outcome_so told clock (Ok _) (Ok answer) recorded config descriptions pasts wants tables matches past are as_many is_past over run answers = record {
+  handed = run.archived.handed;
+  account = run.archived.has.account;
+  outcome = ended tables run.later recorded.hall.state answer
+      (subst (λ p. IsArchivedHall config descriptions wants tables (p ++ run.later) recorded.hall.state run.archived.handed) is_past
+      (archived_hall config descriptions wants tables matches (past ++ run.later) recorded.recorder are as_many run.archived))
+      (subst (λ p. GoesOnAfter clock tables p run.later) is_past run.goes_on)
+      over.over
+      (answers.0 tables as_many over)
+      (answers.1 ∙ ap status_for run.archived.has.lost);
+}

@@ -6,6 +6,8 @@ pub mod Archives
 pub mod Errors
 pub mod Halls
 pub mod Laws
+pub mod Moments
+pub mod Pasts
 pub mod Printed
 pub mod Records
 pub mod Scripts

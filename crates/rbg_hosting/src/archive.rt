@@ -18,13 +18,17 @@ pub(crate) fn open_archive<N: Network>(
     }
 }
 
-/// Makes an archive ready for the records of so many matches.
-pub(crate) fn begin_records<A: Archive>(archive: &mut A, matches: usize) -> Result<(), ServingFault>
+/// Makes an archive ready for the records of so many matches, which may go on.
+pub(crate) fn begin_records<A: Archive>(
+    archive: &mut A,
+    matches: usize,
+    goes_on: bool,
+) -> Result<(), ServingFault>
     ensures handed { (so_far : List Handed) → A.handed archive.old so_far → A.handed archive.new so_far }
     ensures wants { A.wants archive.new ≡ A.wants archive.old }
 {
     for index in 0..matches {
-        archive.begin(index as u64 + 1, false)?;
+        archive.begin(index as u64 + 1, goes_on)?;
     }
     Ok(())
 }

@@ -1,7 +1,8 @@
-//! A hall before its matches: its tables, its logs and its players.
-ghost use Rattle.std.specs.Prelude.{◌≡◌, ◌≤◌, [], List, length, IfOk};
+//! A hall before its matches: its tables and its logs.
+ghost use Rattle.std.specs.Prelude.{◌≡◌, [], List, map, IfOk};
 ghost use Rattle.rbg_hall.specs.Openings.{AreLoaded, IsNewHall, starts_of};
-ghost use Rattle.rbg_hall.specs.TableLimits.{lines_in_all};
+ghost use Rattle.rbg_hall.specs.declared.table.Table.{Table};
+ghost use Rattle.rbg_match.specs.PlayingOn.{seats_of};
 ghost use Rattle.rbg_hosting.specs.Tables.{texts_of};
 ghost use Rattle.rbg_hosting.specs.internal.Recorded.{ArePlaces};
 ghost use Rattle.rbg_hosting.specs.internal.Prepared.{IsPrepared};
@@ -9,62 +10,69 @@ ghost use Rattle.rbg_network.specs.Archives.{Handed};
 
 use crate::archive::begin_records;
 use crate::fault::ServingFault;
-use crate::joining::most_of;
+use crate::names::names_in;
+use crate::past::{Past, name_of};
 use crate::tables::tables_of;
 use crate::task::{Keeping, Serving};
-use rbg_hall::{Hall, HallError, HallOut, LINES, Table};
-use rbg_network::{Archive, Hosting, Network, News, StreamLine, gather};
+use rbg_hall::{Hall, HallError, HallOut, Table};
+use rbg_network::{Archive, Named, Network, begin_log};
 use rbg_serving::Log;
 use std::alloc::{AllocError, Global};
 
-/// A hall whose players are all there.
+/// A hall whose players are to be waited for.
 #[derive(Drop)]
-pub(crate) struct Prepared<N: Network> {
-    pub(crate) hall: Hall<N::Log>,
+pub(crate) struct Prepared<W: Log> {
+    pub(crate) hall: Hall<W>,
     pub(crate) out: HallOut,
-    pub(crate) lines: Vec<StreamLine<N::Stream>>,
-    pub(crate) clock: N::Clock,
-    /// How many matches there are.
-    pub(crate) matches: usize,
+    /// What the logs hold from which the matches go on, that of match 1 first. A new hall has none.
+    pub(crate) pasts: Vec<Past>,
+    /// How many players each match has.
+    pub(crate) players: Vec<u64>,
     /// A place for each match whose record is wanted.
     pub(crate) noted: Vec<bool>,
 }
 
-/// Makes a hall with a table for each description, and waits for its players.
+/// Makes a hall with a table for each description.
 pub(crate) fn prepare<N: Network, A: Archive>(
     alloc: Global,
     descriptions: &[Vec<u8>],
     network: &mut N,
     serving: &Serving<'_>,
     archive: &mut A,
-) -> Result<Prepared<N>, ServingFault>
+) -> Result<Prepared<N::Log>, ServingFault>
     ensures handed { (so_far : List Handed) → A.handed archive.old so_far → A.handed archive.new so_far }
     ensures prepared { IfOk result (λ prepared. IsPrepared serving.now.config (texts_of descriptions.now)
-        (A.wants archive.old) prepared.hall prepared.out prepared.matches prepared.noted.items) }
-    ensures lines { IfOk result (λ prepared. length prepared.lines.items ≤ lines_in_all) }
-    ensures clock { IfOk result (λ prepared. N.Clock.told prepared.clock []) }
+        (A.wants archive.old) prepared.hall prepared.out prepared.players.items prepared.noted.items) }
+    ensures is_new { IfOk result (λ prepared. prepared.pasts.items ≡ []) }
 {
     let tables = tables_of(alloc, descriptions, serving.config)?;
-    let matches = tables.len();
-    let players = players_of(tables.as_slice());
-    let noted = places_for(alloc, archive, matches)?;
-    begin_records(archive, noted.len())?;
+    let players = players_in(alloc, tables.as_slice())?;
+    let noted = places_for(alloc, archive, tables.len())?;
+    begin_records(archive, noted.len(), false)?;
     let (mut hall, out) = open_hall(alloc, tables)?;
-    keep_logs(alloc, network, &mut hall, matches, &serving.keeping)?;
-    let lines = accept_lines(alloc, network, players, serving)?;
-    let clock = network.start_clock()?;
+    keep_logs(alloc, network, &mut hall, descriptions, &serving.keeping)?;
     Ok(Prepared {
         hall,
         out,
-        lines,
-        clock,
-        matches,
+        pasts: Vec::new(alloc),
+        players,
         noted,
     })
 }
 
+/// How many players each match has.
+pub(crate) fn players_in(alloc: Global, tables: &[Table]) -> Result<Vec<u64>, AllocError>
+    ensures { IfOk result (λ players. players.items ≡ map (λ (table : Table). seats_of table.game) tables.now) }
+{
+    let mut players = Vec::with_capacity(alloc, tables.len())?;
+    for table in tables {
+        players.push(table.game.players() as u64)?;
+    }
+    Ok(players)
+}
+
 /// A place for each of so many matches, if their records are wanted. None was handed over.
-fn places_for<A: Archive>(
+pub(crate) fn places_for<A: Archive>(
     alloc: Global,
     archive: &A,
     matches: usize,
@@ -76,7 +84,10 @@ fn places_for<A: Archive>(
 }
 
 /// A new hall of these tables.
-fn open_hall<W: Log>(alloc: Global, tables: Vec<Table>) -> Result<(Hall<W>, HallOut), ServingFault>
+pub(crate) fn open_hall<W: Log>(
+    alloc: Global,
+    tables: Vec<Table>,
+) -> Result<(Hall<W>, HallOut), ServingFault>
     requires { AreLoaded tables.items }
     ensures { IfOk result (λ made. IsNewHall (starts_of tables.items) made.0 made.1) }
 {
@@ -88,13 +99,13 @@ fn open_hall<W: Log>(alloc: Global, tables: Vec<Table>) -> Result<(Hall<W>, Hall
     }
 }
 
-/// Begins the logs of that many matches, if they are wanted: each is a new file with the name given, a point and the
-/// match's number.
+/// Begins the logs of the descriptions' matches, if they are wanted: each is a new file with the name given, a point and the
+/// match's number, which has a game file beside it.
 fn keep_logs<N: Network>(
     alloc: Global,
     network: &mut N,
     hall: &mut Hall<N::Log>,
-    tables: usize,
+    descriptions: &[Vec<u8>],
     keeping: &Keeping<'_>,
 ) -> Result<(), ServingFault>
     ensures state { hall.new.state ≡ hall.old.state }
@@ -103,44 +114,17 @@ fn keep_logs<N: Network>(
     let Some(name) = keeping.log else {
         return Ok(());
     };
-    for index in 0..tables {
-        let table = index as u64 + 1;
-        let file = format!(in alloc; "{name}.{table}")?;
-        hall.keep(table, network.create_log(file.as_str(), keeping.sync)?);
+    for (index, description) in descriptions.iter().enumerate() {
+        let number = index as u64 + 1;
+        let log = name_of(alloc, name, number)?;
+        let named = Named {
+            description: description.as_slice(),
+            names: names_in(keeping.names, index),
+        };
+        hall.keep(
+            number,
+            begin_log(alloc, network, log.as_str(), keeping.sync, named)?,
+        );
     }
     Ok(())
-}
-
-/// How many players the tables have together.
-fn players_of(tables: &[Table]) -> usize {
-    let mut players: usize = 0;
-    for table in tables {
-        players = players.saturating_add(table.game.players());
-    }
-    players
-}
-
-/// Waits until that many players have connected to the port, of which a hall has lines for 128.
-fn accept_lines<N: Network>(
-    alloc: Global,
-    network: &mut N,
-    players: usize,
-    serving: &Serving<'_>,
-) -> Result<Vec<StreamLine<N::Stream>>, ServingFault>
-    ensures { IfOk result (λ lines. length lines.items ≤ lines_in_all) }
-{
-    if players > LINES {
-        return Err(ServingFault::Config);
-    }
-    let hosting = serving.hosting;
-    let port = hosting.port;
-    let mut listener = network.listen(port)?;
-    hosting.tell(network, &News::Listening { port });
-    hosting.tell(network, &most_of(serving));
-    // who connects has a line, and no seat yet: so this isn't told
-    let silent = Hosting {
-        quiet: true,
-        ..hosting
-    };
-    Ok(gather(alloc, network, &mut listener, players, silent)?)
 }

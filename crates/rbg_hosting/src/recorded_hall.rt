@@ -1,11 +1,16 @@
 //! A hall that hands the record of each match to an archive when the match ends, and whose time may be bounded.
-ghost use Rattle.std.specs.Prelude.{◌≡◌, ◌⊎◌, true};
+ghost use Rattle.std.specs.Prelude.{◌≡◌, ◌⊎◌, true, OnErr, OnOk};
+ghost use Rattle.rbg_hall.specs.Events.{event_of};
+ghost use Rattle.rbg_hall.specs.Hearing.{HallHears};
+ghost use Rattle.rbg_match.specs.Inputs.{event_of as match_event};
+ghost use Rattle.rbg_hosting.specs.Moments.{later_event};
 ghost use Rattle.rbg_hosting.specs.declared.fault.ServingFault.{ServingFault};
+ghost use Rattle.rbg_hosting.specs.internal.Recorded.{HandsOver};
 
 use crate::ServingFault;
 use crate::recorder::Recorder;
 use rbg_base::Memory;
-use rbg_hall::{Hall, HallOut};
+use rbg_hall::{Hall, HallEvent, HallOut};
 use rbg_match::Event;
 use rbg_network::Archive;
 use rbg_serving::{Engine, Log, ServeError};
@@ -16,14 +21,16 @@ use std::alloc::AllocError;
 pub(crate) struct RecordedHall<W: Log, A: Archive> {
     hall: Hall<W>,
     recorder: Recorder<A>,
-    /// The first moment at which events aren't handled any more, if there is one.
+    /// The moment from which its matches go on: each event is heard later by so much.
+    since: u64,
+    /// The first moment of the clock at which events aren't handled any more, if there is one.
     until: Option<u64>,
     /// Whether an event came at that moment or later.
     late: bool,
 }
 
 impl<W: Log, A: Archive> RecordedHall<W, A> {
-    /// A hall, and what hands over the records of its matches. At the given moment and later no event is handled.
+    /// A hall, and what hands over the records of its matches. At the given moment of the clock and later no event is handled.
     pub(crate) fn new(
         hall: Hall<W>,
         recorder: Recorder<A>,
@@ -35,9 +42,19 @@ impl<W: Log, A: Archive> RecordedHall<W, A> {
         RecordedHall {
             hall,
             recorder,
+            since: 0,
             until,
             late: false,
         }
+    }
+
+    /// Its matches go on from this moment.
+    pub(crate) fn go_on_from(&mut self, since: u64)
+        ensures since { self.new.since ≡ since }
+        ensures hall { self.new.hall ≡ self.old.hall }
+        ensures recorder { self.new.recorder ≡ self.old.recorder }
+    {
+        self.since = since;
     }
 
     /// The hall.
@@ -52,6 +69,18 @@ impl<W: Log, A: Archive> RecordedHall<W, A> {
         ensures { result ≡ self.now.recorder.lost }
     {
         self.recorder.has_lost()
+    }
+
+    /// Hears an event of the past, at whatever moment, and hands over what is to be handed over then.
+    pub(crate) fn hear(&mut self, event: &HallEvent<'_>, out: &mut HallOut) -> Result<(), Memory>
+        ensures hears { OnOk result (HallHears self.old.hall.state (event_of event.now) self.new.hall.state out.old out.new
+            × HandsOver A.handed self.old.recorder self.new.recorder
+            self.old.hall.state.tables self.new.hall.state.tables) }
+        ensures stops { OnErr result (self.new.recorder ≡ self.old.recorder) }
+    {
+        self.hall.step(*event, out)?;
+        self.recorder.hand_over(&self.hall);
+        Ok(())
     }
 
     /// The archive that was handed the records.
@@ -78,6 +107,17 @@ impl<W: Log, A: Archive> RecordedHall<W, A> {
         }
     }
 
+    /// Why it is served no more where this fault is known. A record that is lost comes before it.
+    pub(crate) fn fault_after(&self, fault: ServingFault) -> ServingFault
+        ensures { self.now.recorder.lost ≡ true → result ≡ ServingFault.Device }
+    {
+        if self.has_lost() {
+            ServingFault::Device
+        } else {
+            fault
+        }
+    }
+
     /// Why it is served no more where memory ran out.
     pub(crate) fn fault_of_memory(&self) -> ServingFault
         ensures { self.now.recorder.lost ≡ true → result ≡ ServingFault.Device }
@@ -93,6 +133,7 @@ impl<W: Log, A: Archive> RecordedHall<W, A> {
     fn note_late(&mut self, at: u64) -> bool
         ensures hall { self.new.hall ≡ self.old.hall }
         ensures recorder { self.new.recorder ≡ self.old.recorder }
+        ensures since { self.new.since ≡ self.old.since }
     {
         if let Some(until) = self.until {
             self.late = until <= at;
@@ -110,9 +151,29 @@ fn moment_of(event: Event<'_>) -> u64 {
     }
 }
 
+/// The same event, later by so much.
+fn later<'a>(event: Event<'a>, since: u64) -> Event<'a>
+    ensures { match_event result ≡ later_event since (match_event event.entry) }
+{
+    match event {
+        Event::Piece { seat, at, bytes } => Event::Piece {
+            seat,
+            at: at.saturating_add(since),
+            bytes,
+        },
+        Event::Ended { seat, at } => Event::Ended {
+            seat,
+            at: at.saturating_add(since),
+        },
+        Event::Tick { at } => Event::Tick {
+            at: at.saturating_add(since),
+        },
+    }
+}
+
 impl<W: Log, A: Archive> Engine for RecordedHall<W, A> {
     ghost use Rattle.rbg_hall.specs.TableLimits.{lines_in_all};
-    ghost use Rattle.rbg_hall.specs.Due.{IsFirstDue};
+    ghost use Rattle.rbg_hosting.specs.internal.Moments.{IsDueSince};
     ghost use Rattle.rbg_hosting.specs.internal.Recorded.{of_recorded};
 
     type Outbox = HallOut;
@@ -129,13 +190,13 @@ impl<W: Log, A: Archive> Engine for RecordedHall<W, A> {
 
     ghost valid = { λ _. Unit {0} };
 
-    ghost first_due = { λ recorded due. IsFirstDue recorded.hall.state.tables due };
+    ghost first_due = { λ recorded due. IsDueSince recorded.since recorded.hall.state.tables due };
 
     fn handle(&mut self, event: Event<'_>, outbox: &mut HallOut) -> Result<(), Memory> {
         if self.note_late(moment_of(event)) {
             return Err(Memory);
         }
-        self.hall.handle(event, outbox)?;
+        self.hall.handle(later(event, self.since), outbox)?;
         self.recorder.hand_over(&self.hall);
         Ok(())
     }
@@ -149,7 +210,10 @@ impl<W: Log, A: Archive> Engine for RecordedHall<W, A> {
     }
 
     fn due(&self) -> Option<u64> {
-        self.hall.due()
+        match self.hall.due() {
+            Some(due) => Some(due.saturating_sub(self.since)),
+            None => None,
+        }
     }
 
     fn bytes(outbox: &HallOut, line: usize) -> &[u8] {

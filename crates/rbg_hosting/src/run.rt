@@ -4,6 +4,7 @@ use crate::Serving;
 use crate::answer::answer_hall;
 use crate::archive::open_archive;
 use crate::fault::ServingFault;
+use crate::going_on::resume_hall;
 use crate::reading::{read_all, whole_texts};
 use crate::serving::serve_hall;
 use rbg_console::{Files, Input, MAX_INPUT, Status, read_input, write_text};
@@ -69,19 +70,24 @@ pub fn serve_files<F: Files, N: Network>(
         return Err(ServingFault::Device);
     };
     match whole_texts(alloc, descriptions)? {
-        Ok(texts) => serve_texts(alloc, texts.as_slice(), network, serving),
+        Ok(texts) => serve_texts(alloc, texts.as_slice(), files, network, serving),
         Err(error) => Err(ServingFault::from(error)),
     }
 }
 
-/// Plays a match of each description's game at once, with an archive if records are to be kept.
-fn serve_texts<N: Network>(
+/// Plays a match of each description's game at once, with an archive if records are to be kept. Where the logs of a hall are
+/// to go on, it is that one.
+fn serve_texts<F: Files, N: Network>(
     alloc: Global,
     descriptions: &[Vec<u8>],
+    files: &mut F,
     network: &mut N,
     serving: &Serving<'_>,
 ) -> Result<Answer, ServingFault> {
     let archive = open_archive(network, &serving.keeping)?;
-    let (answer, _archive) = serve_hall(alloc, descriptions, network, serving, archive);
+    let (answer, _archive) = match serving.keeping.resume {
+        Some(log) => resume_hall(alloc, descriptions, files, network, log, serving, archive),
+        None => serve_hall(alloc, descriptions, network, serving, archive),
+    };
     answer
 }

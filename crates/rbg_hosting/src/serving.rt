@@ -1,29 +1,35 @@
 //! A hall over connections: its players are waited for, its matches are played at once, and their records are given.
 ghost use Rattle.std.specs.Prelude.{◌≡◌, ◌≤◌, ℕ, Bool, [], List, length, IfOk, OnOk};
 ghost use Rattle.rbg_hall.specs.Halls.{AbstractTable, begun_at};
-ghost use Rattle.rbg_hall.specs.Openings.{IsNewHall};
+ghost use Rattle.rbg_hall.specs.Events.{AbstractHallEvent};
 ghost use Rattle.rbg_hall.specs.TableLimits.{lines_in_all};
+ghost use Rattle.rbg_hall.specs.Wholes.{HasRun};
 ghost use Rattle.rbg_hosting.specs.Records.{AreHallsRecords, ArePrintedMatches, HasEnded};
 ghost use Rattle.rbg_hosting.specs.Served.{HasOutcome, status_for};
 ghost use Rattle.rbg_hosting.specs.Tables.{texts_of};
 ghost use Rattle.rbg_hosting.specs.internal.Prepared.{IsPrepared};
-ghost use Rattle.rbg_hosting.specs.internal.Recorded.{AnswersRecords, AnswersServed, IsFresh, PrintsRecords, RunEnds};
+ghost use Rattle.rbg_hosting.specs.internal.Recorded.{AnswersRecords, AnswersServed, HasHeard, HasSince, PrintsRecords, RunEnds};
+ghost use Rattle.rbg_hosting.specs.internal.Resuming.{pasts_in};
 ghost use Rattle.rbg_hosting.specs.internal.Writing.{AppendsMatch, AppendsRecord};
 ghost use Rattle.rbg_match.specs.Matches.{HasHistory};
 ghost use Rattle.rbg_match.specs.declared.config.Config.{Config};
 
 use crate::fault::ServingFault;
+use crate::going_on::{Going, go_on};
+use crate::in_play::since_of;
 use crate::preparing::{Prepared, prepare};
 use crate::recorded_hall::RecordedHall;
 use crate::recorder::Recorder;
+use crate::seats::{seat_all, tell_stalled};
 use crate::task::{Keeping, Serving};
 use rbg_console::Status;
 use rbg_hall::{Hall, HallOut};
 use rbg_match::Match;
-use rbg_network::{Archive, Hosting, Network, News, StreamLine};
+use rbg_network::{Archive, MatchNews, Network, News, StreamLine};
 use rbg_record::write_record;
 use rbg_referee::Answer;
 use rbg_serving::{Clock, Log, serve_engine};
+use rbg_wire::Outcome;
 use std::alloc::{AllocError, Global};
 use std::io::{Read, Write};
 
@@ -39,8 +45,8 @@ pub fn serve_hall<N: Network, A: Archive>(
 ) -> (Result<Answer, ServingFault>, A)
     ensures printed { IfOk result.0 (λ answer.
         AreHallsRecords serving.now.config (texts_of descriptions.now) answer.text.items) }
-    ensures archived { A.handed archive [] → HasOutcome A.handed serving.now.config (texts_of descriptions.now)
-        (A.wants archive) result.1 result.0 }
+    ensures archived { A.handed archive [] → HasOutcome A.handed N.Clock.told serving.now.config
+        (texts_of descriptions.now) [] (A.wants archive) result.1 result.0 }
 {
     let mut archive = archive;
     match prepare(alloc, descriptions, network, serving, &mut archive) {
@@ -50,47 +56,80 @@ pub fn serve_hall<N: Network, A: Archive>(
 }
 
 /// Plays the matches of a hall, and returns what is answered, with the archive.
-fn play<N: Network, A: Archive>(
+pub(crate) fn play<N: Network, A: Archive>(
     alloc: Global,
     network: &mut N,
-    prepared: Prepared<N>,
+    prepared: Prepared<N::Log>,
     archive: A,
     serving: &Serving<'_>,
 ) -> (Result<Answer, ServingFault>, A)
-    requires lines { length prepared.lines.items ≤ lines_in_all }
-    requires clock { N.Clock.told prepared.clock [] }
-    ensures printed { (config : Config) (descriptions : List (List ℕ)) (wants : Bool) →
-        IsPrepared config descriptions wants prepared.hall prepared.out prepared.matches prepared.noted.items →
+    requires { length prepared.pasts.items ≤ length prepared.players.items }
+    ensures printed { prepared.pasts.items ≡ [] → (config : Config) (descriptions : List (List ℕ)) (wants : Bool) →
+        IsPrepared config descriptions wants prepared.hall prepared.out prepared.players.items prepared.noted.items →
         IfOk result.0 (λ answer. AreHallsRecords config descriptions answer.text.items) }
     ensures archived { (config : Config) (descriptions : List (List ℕ)) (wants : Bool) →
-        IsPrepared config descriptions wants prepared.hall prepared.out prepared.matches prepared.noted.items →
+        IsPrepared config descriptions wants prepared.hall prepared.out prepared.players.items prepared.noted.items →
         A.handed archive [] →
-        HasOutcome A.handed config descriptions wants result.1 result.0 }
+        HasOutcome A.handed N.Clock.told config descriptions (pasts_in prepared.pasts.items) wants result.1 result.0 }
 {
     let Prepared {
         hall,
         mut out,
-        mut lines,
-        mut clock,
-        matches,
+        pasts,
+        players,
         noted,
     } = prepared;
+    let matches = players.len();
     let recorder = Recorder::new(archive, noted);
     let mut recorded = RecordedHall::new(hall, recorder, end_of(&serving.keeping));
-    let served = run_hall(
-        alloc,
-        &mut recorded,
-        lines.as_mut_slice(),
-        &mut out,
-        &mut clock,
-        rounds_of(serving),
-    );
-    tell_stalled(network, serving.hosting, lines.as_slice());
+    let going = Going {
+        pasts: pasts.as_slice(),
+        players: players.as_slice(),
+    };
+    let served = go_on(alloc, network, &mut recorded, &mut out, going, serving);
+    tell_ends(network, recorded.hall(), matches, &served, serving);
     let answer = answer_of(alloc, &recorded, matches, served);
     (answer, recorded.into_archive())
 }
 
-/// The moment at which the time for the matches is over, if it is bounded.
+/// Waits for the players of a hall, and plays its matches.
+pub(crate) fn play_seated<N: Network, A: Archive>(
+    alloc: Global,
+    network: &mut N,
+    recorded: &mut RecordedHall<N::Log, A>,
+    out: &mut HallOut,
+    going: Going<'_>,
+    serving: &Serving<'_>,
+) -> Result<(), ServingFault>
+    ensures ended { OnOk result ((starts : List AbstractTable) (past : List AbstractHallEvent) →
+        HasRun starts past recorded.old.hall.state out.old →
+        HasEnded starts recorded.new.hall.state) }
+    ensures archived { (starts : List AbstractTable) (matches : ℕ) (past : List AbstractHallEvent) →
+        length starts ≡ length going.entry.players.now →
+        HasHeard A.handed starts matches recorded.old.recorder past recorded.old.hall.state out.old →
+        RunEnds A.handed N.Clock.told starts matches past recorded.new result }
+{
+    let since = since_of(recorded.hall(), going.players.len());
+    recorded.go_on_from(since);
+    match seat_all(alloc, network, recorded.hall(), going, serving) {
+        Ok((mut lines, mut clock)) => {
+            let rounds = rounds_of(serving);
+            let served = run_hall(
+                alloc,
+                recorded,
+                lines.as_mut_slice(),
+                out,
+                &mut clock,
+                rounds,
+            );
+            tell_stalled(network, serving.hosting, lines.as_slice(), going.players);
+            served
+        }
+        Err(fault) => Err(recorded.fault_after(fault)),
+    }
+}
+
+/// The moment of the clock at which the time for the matches is over, if it is bounded.
 fn end_of(keeping: &Keeping<'_>) -> Option<u64> {
     match keeping.minutes {
         Some(minutes) => Some(minutes.saturating_mul(60_000)),
@@ -117,13 +156,13 @@ fn run_hall<S: Read + Write + Drop, C: Clock, W: Log, A: Archive>(
 ) -> Result<(), ServingFault>
     requires lines { length lines.old ≤ lines_in_all }
     requires clock { C.told clock.old [] }
-    ensures ended { OnOk result ((starts : List AbstractTable) →
-        IsNewHall starts recorded.old.hall out.old →
+    ensures ended { OnOk result ((starts : List AbstractTable) (past : List AbstractHallEvent) →
+        HasRun starts past recorded.old.hall.state out.old →
         HasEnded starts recorded.new.hall.state) }
-    ensures archived { (starts : List AbstractTable) →
-        IsNewHall starts recorded.old.hall out.old →
-        IsFresh A.handed recorded.old.recorder →
-        RunEnds A.handed starts recorded.old.recorder recorded.new result }
+    ensures archived { (starts : List AbstractTable) (matches : ℕ) (past : List AbstractHallEvent) →
+        HasSince recorded.old starts →
+        HasHeard A.handed starts matches recorded.old.recorder past recorded.old.hall.state out.old →
+        RunEnds A.handed C.told starts matches past recorded.new result }
 {
     // The outbox has a queue for each of a hall's lines.
     let _lines = out.lines();
@@ -176,14 +215,48 @@ fn status_of(lost: bool) -> Status
     }
 }
 
-/// Reports which connections took nothing of what was left for them after the end. Connections are numbered from 1.
-fn tell_stalled<N: Network>(network: &mut N, hosting: Hosting, lines: &[StreamLine<N::Stream>]) {
-    for (index, line) in lines.iter().enumerate() {
-        if line.has_stalled() {
-            let connection = index.saturating_add(1);
-            hosting.tell(network, &News::ConnectionTookNothing { connection });
+/// Tells how each of so many matches ended, or that it did not end within its bound where this is the result.
+fn tell_ends<N: Network, W: Log>(
+    network: &mut N,
+    hall: &Hall<W>,
+    matches: usize,
+    served: &Result<(), ServingFault>,
+    serving: &Serving<'_>,
+) {
+    for index in 0..matches {
+        let number = index as u64 + 1;
+        if let Some(news) = end_news(hall, number, served, serving) {
+            serving
+                .hosting
+                .tell(network, &News::OfMatch { number, news });
         }
     }
+}
+
+/// The news of how the match of a number ended, or that it did not within its bound.
+fn end_news<W: Log>(
+    hall: &Hall<W>,
+    number: u64,
+    served: &Result<(), ServingFault>,
+    serving: &Serving<'_>,
+) -> Option<MatchNews<'static>> {
+    if let Some(outcome) = outcome_of(hall, number) {
+        return Some(MatchNews::Ended { outcome });
+    }
+    if !matches!(served, Err(ServingFault::Rounds)) {
+        return None;
+    }
+    match serving.keeping.minutes {
+        Some(minutes) => Some(MatchNews::OutOfTime { minutes }),
+        None => Some(MatchNews::Unfinished {
+            rounds: serving.rounds,
+        }),
+    }
+}
+
+/// The outcome of the match of a number, if it has ended.
+fn outcome_of<W: Log>(hall: &Hall<W>, number: u64) -> Option<Outcome> {
+    hall.begun(number)?.outcome()
 }
 
 /// `match <k>` and the record of each match that has begun.

@@ -42,7 +42,7 @@ impl Hosting {
     }
 
     /// What is waited for until all have come.
-    fn pause(self) -> Pause {
+    pub(crate) fn pause(self) -> Pause {
         Pause::Playing {
             due: self.wait.map(|seconds| seconds.saturating_mul(1_000)),
         }
@@ -111,7 +111,7 @@ fn fill<N: Network>(
 }
 
 /// Whether the time is over in which all have to come. Then this is told, whatever is wanted.
-fn is_late<N: Network>(network: &mut N, clock: &mut N::Clock, hosting: Hosting) -> bool {
+pub(crate) fn is_late<N: Network>(network: &mut N, clock: &mut N::Clock, hosting: Hosting) -> bool {
     let Some(seconds) = hosting.wait else {
         return false;
     };
@@ -122,7 +122,8 @@ fn is_late<N: Network>(network: &mut N, clock: &mut N::Clock, hosting: Hosting) 
     late
 }
 
-fn is_full<S: Read + Write + Drop>(seats: &[Option<StreamLine<S>>]) -> bool {
+/// Whether each seat is taken.
+pub(crate) fn is_full<S: Read + Write + Drop>(seats: &[Option<StreamLine<S>>]) -> bool {
     lowest_free(seats) == seats.len()
 }
 
@@ -170,15 +171,18 @@ fn free_closed<N: Network>(
 }
 
 /// Whether a seat is taken by a connection that is closed.
-fn is_closed<N: Network>(network: &mut N, seat: &Option<StreamLine<N::Stream>>) -> bool {
+pub(crate) fn is_closed<N: Network>(network: &mut N, seat: &Option<StreamLine<N::Stream>>) -> bool {
     match seat {
-        Some(line) => network.is_closed(line.stream()),
+        Some(line) => match line.stream() {
+            Some(stream) => network.is_closed(stream),
+            None => false,
+        },
         None => false,
     }
 }
 
 /// The lines of the seats, all of which are taken.
-fn lines_of<S: Read + Write + Drop>(
+pub(crate) fn lines_of<S: Read + Write + Drop>(
     alloc: Global,
     seats: Vec<Option<StreamLine<S>>>,
 ) -> Result<Vec<StreamLine<S>>, GatherError>

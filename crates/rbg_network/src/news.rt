@@ -28,8 +28,6 @@ pub enum News<'a> {
     Ended { outcome: Outcome },
     /// The match has ended, and the connection of this seat took nothing of what was left for it.
     TookNothing { seat: usize },
-    /// The matches of a hall have ended, and this connection took nothing of what was left for it.
-    ConnectionTookNothing { connection: usize },
     /// The match did not end in this many rounds.
     Unfinished { rounds: u64 },
     /// The match did not end within this many minutes.
@@ -48,8 +46,6 @@ pub enum News<'a> {
     Lost { port: u16, error: ClientError },
     /// This process plays for this player.
     Plays { player: u64, name: &'a str },
-    /// A player has connected to a hall whose matches are played already, and has this connection.
-    Joined { connection: usize },
     /// News of the match of this number in a hall.
     OfMatch { number: u64, news: MatchNews<'a> },
 }
@@ -57,12 +53,18 @@ pub enum News<'a> {
 /// What an organiser is told of a match in a hall.
 #[derive(Clone, Copy)]
 pub enum MatchNews<'a> {
+    /// A player has connected, and has this seat.
+    Connected { seat: usize },
+    /// The connection of this seat was closed before the matches began. The seat is free again.
+    Left { seat: usize },
     /// All its seats are taken.
     Begins,
     /// It goes on from its log, and waits for its players again.
     GoesOn,
     /// It has ended.
     Ended { outcome: Outcome },
+    /// All matches have ended, and the connection of this seat took nothing of what was left for it.
+    TookNothing { seat: usize },
     /// It did not end in this many rounds.
     Unfinished { rounds: u64 },
     /// It did not end within this many minutes.
@@ -90,12 +92,6 @@ impl fmt::Display for News<'_> {
             News::TookNothing { seat } => {
                 write_number(f, "seat ", *seat as u64, " took nothing for 10 seconds")
             }
-            News::ConnectionTookNothing { connection } => write_number(
-                f,
-                "connection ",
-                *connection as u64,
-                " took nothing for 10 seconds",
-            ),
             News::Unfinished { rounds } => {
                 write_count(f, *rounds, "match not ended within", "round")
             }
@@ -118,9 +114,6 @@ impl fmt::Display for News<'_> {
             }
             News::Lost { port, error } => write_failure(f, *error, "port ", u64::from(*port), ""),
             News::Plays { player, name } => write_name(f, "plays", name, *player),
-            News::Joined { connection } => {
-                write_number(f, "connection ", *connection as u64, " connected")
-            }
             News::OfMatch { number, news } => {
                 write_number(f, "match ", *number, "")?;
                 write_of_match(f, news)
@@ -132,12 +125,20 @@ impl fmt::Display for News<'_> {
 /// What is told of a match, after its number.
 fn write_of_match<W: fmt::Write>(f: &mut Formatter<W>, news: &MatchNews<'_>) -> fmt::Result {
     match news {
+        MatchNews::Connected { seat } => { write_number(f, ": seat ", *seat as u64, " connected") }
+        MatchNews::Left { seat } => write_number(f, ": seat ", *seat as u64, " left"),
         MatchNews::Begins => f.write_str(" begins"),
         MatchNews::GoesOn => f.write_str(" goes on"),
         MatchNews::Ended { outcome } => {
             f.write_str(" ended: ")?;
             write_outcome(f, outcome)
         }
+        MatchNews::TookNothing { seat } => write_number(
+            f,
+            ": seat ",
+            *seat as u64,
+            " took nothing for 10 seconds",
+        ),
         MatchNews::Unfinished { rounds } => write_count(f, *rounds, " not ended within", "round"),
         MatchNews::OutOfTime { minutes } => {
             write_count(f, *minutes, " not ended within", "minute")

@@ -1,5 +1,5 @@
 -- A hall whose records are handed to an archive, as a call that serves it knows it.
-use Rattle.std.specs.Prelude.{◌≡◌, ◌⊎◌, ◌-◌, ◌≤◌, ◌<◌, ◌||◌, ℕ, suc, Bool, true, false, List, [], ◌∷◌, ◌++◌, Option, Some, Result, Ok, Err, is_some, length, replicate, slice_index_or}
+use Rattle.std.specs.Prelude.{◌≡◌, ◌⊎◌, ◌-◌, ◌≤◌, ◌<◌, ◌||◌, ℕ, suc, Bool, true, false, List, [], ◌∷◌, ◌++◌, Option, Some, Result, Ok, Err, is_some, length, replicate, slice_index_or, MatchResult}
 use Rattle.rbg_hall.specs.Events.{AbstractHallEvent}
 use Rattle.rbg_hall.specs.Halls.{AbstractTable, HallState, begun_at}
 use Rattle.rbg_hall.specs.Hearing.{HallHears}
@@ -10,6 +10,7 @@ use Rattle.rbg_network.specs.Archives.{Handed, is_any_lost}
 use Rattle.rbg_serving.specs.Passing.{Behaviour}
 use Rattle.rbg_referee.specs.declared.answer.Answer.{Answer}
 use Rattle.rbg_hosting.specs.Archives.{AreHandedOver, IsArchivedRun, IsHandedFor, IsHandedOver, wanted_of}
+use Rattle.rbg_hosting.specs.Moments.{GoesOnAfter, HearsPast, IsSince, later_event}
 use Rattle.rbg_hosting.specs.Records.{ArePrintedMatches, HasEnded}
 use Rattle.rbg_hosting.specs.Served.{status_for}
 use Rattle.rbg_hosting.specs.declared.fault.ServingFault.{ServingFault}
@@ -93,13 +94,15 @@ pub record HandsAt {A : Type 0} (told : A → List Handed → Type 0) (before af
   pub hands : WorksUnless (noted_at before index) begun → (handed : List Handed) → HasHanded told before handed →
       HandsOne told after (suc index) (noted_at before index) begun handed
 
--- Like a hall, it is over once every match has ended, and hears each line that may speak until then. After each event it
--- hands over what is to be handed over. Where an event isn't handled, nothing is.
+-- Like a hall, it is over once every match has ended, and hears each line that may speak until then. Each event is heard
+-- later by the moment from which the matches go on. After it is handed over what is to be handed over. Where an event isn't
+-- handled, nothing is.
 abbrev pub of_recorded : {W A : Type 0} → (told : A → List Handed → Type 0) → Behaviour (RecordedHall W A)
 of_recorded told = record {
   steps = λ old event new before after.
-      HallHears old.hall.state (hall_event event) new.hall.state before after
-      × HandsOver told old.recorder new.recorder old.hall.state.tables new.hall.state.tables;
+      HallHears old.hall.state (hall_event (later_event old.since event)) new.hall.state before after
+      × HandsOver told old.recorder new.recorder old.hall.state.tables new.hall.state.tables
+      × (new.since ≡ old.since);
   lacks = λ old new. new.recorder ≡ old.recorder;
   listens = λ recorded seat. (¬ HaveAllEnded recorded.hall.state.tables) × MaySpeak recorded.hall.state (seat - 1);
   over = λ recorded. HaveAllEnded recorded.hall.state.tables;
@@ -110,31 +113,73 @@ pub record IsFresh {A : Type 0} (told : A → List Handed → Type 0) (recorder 
   pub has : HasHanded told recorder []
   pub noted : recorder.noted.items ≡ replicate (places recorder) false
 
--- A recorder has handed over what is to be handed over of so many matches in a run of a hall with these tables that led to
--- this state.
-pub record HasArchived {A : Type 0} (told : A → List Handed → Type 0) (starts : List AbstractTable) (matches : ℕ)
-    (recorder : Recorder A) (state : HallState) : Type 0 where
+-- A hall with these tables has heard these events, stands so, and has these bytes queued. Meanwhile its recorder has handed
+-- over what is to be handed over of so many matches, and knows which ones have ended.
+pub record HasHeard {A : Type 0} (told : A → List Handed → Type 0) (starts : List AbstractTable) (matches : ℕ)
+    (recorder : Recorder A) (events : List AbstractHallEvent) (state : HallState) (queues : List (List ℕ)) : Type 0 where
+  pub as_many : places recorder ≡ matches
+  pub noted : AreNoted recorder state.tables
   pub handed : List Handed
   pub has : HasHanded told recorder handed
-  pub events : List AbstractHallEvent
+  pub run : IsArchivedRun starts matches events state queues handed
+
+-- It had to hear more events, and is served no more after a front part of them.
+pub record HasStopped {A : Type 0} (told : A → List Handed → Type 0) (starts : List AbstractTable) (matches : ℕ)
+    (recorder : Recorder A) (earlier more : List AbstractHallEvent) : Type 0 where
+  pub heard : List AbstractHallEvent
+  pub left : List AbstractHallEvent
+  pub parts : more ≡ heard ++ left
+  pub state : HallState
+  pub queues : List (List ℕ)
+  pub is : HasHeard told starts matches recorder (earlier ++ heard) state queues
+
+-- a hall that had heard events, and has to hear more, has heard them, or a front part of them
+abbrev pub HearsMore : {W A U E : Type 0} → (told : A → List Handed → Type 0) → (old new : RecordedHall W A) → (before after : List (List ℕ)) → (more : List AbstractHallEvent) → Result U E → Type 0
+HearsMore told old new before after more result = (starts : List AbstractTable) (matches : ℕ) (earlier : List AbstractHallEvent) →
+    HasHeard told starts matches old.recorder earlier old.hall.state before →
+    MatchResult result
+    (λ _. HasHeard told starts matches new.recorder (earlier ++ more) new.hall.state after)
+    (λ _. HasStopped told starts matches new.recorder earlier more)
+
+-- A recorder has handed over what is to be handed over of so many matches in a run of a hall with these tables, which heard
+-- these events and stands so.
+pub record HasArchived {A : Type 0} (told : A → List Handed → Type 0) (starts : List AbstractTable) (matches : ℕ)
+    (events : List AbstractHallEvent) (recorder : Recorder A) (state : HallState) : Type 0 where
+  pub handed : List Handed
+  pub has : HasHanded told recorder handed
   pub queues : List (List ℕ)
   pub run : IsArchivedRun starts matches events state queues handed
+
+-- The same, where a past was heard first, and then others by a clock.
+pub record HasArchivedAfter {A C : Type 0} (told : A → List Handed → Type 0) (clock : C → List ℕ → Type 0)
+    (starts : List AbstractTable) (matches : ℕ) (past : List AbstractHallEvent) (recorder : Recorder A) (state : HallState) :
+    Type 0 where
+  pub later : List AbstractHallEvent
+  pub goes_on : GoesOnAfter clock starts past later
+  pub archived : HasArchived told starts matches (past ++ later) recorder state
 
 -- a fault with the status of a device
 abbrev pub IsOfDevice : ServingFault → Type 0
 IsOfDevice fault = (fault ≡ DeviceFailed) ⊎ (fault ≡ Rounds)
 
 -- A recorder has handed over what is to be handed over in a run that led to some state, after which it was served no more.
-pub record IsStopped {A : Type 0} (told : A → List Handed → Type 0) (starts : List AbstractTable) (matches : ℕ)
-    (recorder : Recorder A) (fault : ServingFault) : Type 0 where
+pub record IsStopped {A C : Type 0} (told : A → List Handed → Type 0) (clock : C → List ℕ → Type 0)
+    (starts : List AbstractTable) (matches : ℕ) (past : List AbstractHallEvent) (recorder : Recorder A) (fault : ServingFault) :
+    Type 0 where
+  pub events : List AbstractHallEvent
+  pub hears : HearsPast clock starts past events
   pub state : HallState
-  pub archived : HasArchived told starts matches recorder state
+  pub archived : HasArchived told starts matches events recorder state
   pub device : recorder.lost ≡ true → IsOfDevice fault
 
--- how the serving of a new hall ends
-abbrev pub RunEnds : {W A U : Type 0} → (told : A → List Handed → Type 0) → List AbstractTable → (before : Recorder A) → (after : RecordedHall W A) → Result U ServingFault → Type 0
-RunEnds told starts before after (Ok _) = HasArchived told starts (places before) after.recorder after.hall.state
-RunEnds told starts before after (Err fault) = IsStopped told starts (places before) after.recorder fault
+-- how the serving of a hall ends that had this past
+abbrev pub RunEnds : {W A C U : Type 0} → (told : A → List Handed → Type 0) → (clock : C → List ℕ → Type 0) → List AbstractTable → (matches : ℕ) → (past : List AbstractHallEvent) → (after : RecordedHall W A) → Result U ServingFault → Type 0
+RunEnds told clock starts matches past after (Ok _) = HasArchivedAfter told clock starts matches past after.recorder after.hall.state
+RunEnds told clock starts matches past after (Err fault) = IsStopped told clock starts matches past after.recorder fault
+
+-- the moment from which its matches go on is the one that it has
+abbrev pub HasSince : {W A : Type 0} → RecordedHall W A → (starts : List AbstractTable) → Type 0
+HasSince recorded starts = IsSince recorded.hall.state.tables (length starts) recorded.since
 
 -- the text is that of the records of a hall that has so many matches, and has ended
 abbrev pub AnswersRecords : {W A : Type 0} → (matches : ℕ) → RecordedHall W A → (text : List ℕ) → Type 0
