@@ -53,7 +53,7 @@ help:
 	@echo 'make slurm    sets up Slurm on this one machine, of Debian packages, and plays the example as an array (after make build, as root)'
 	@echo 'make crash    kills ./rbg in the middle of 50 matches and 20 halls, lets each go on, and compares its record (after make build)'
 	@echo 'make storm    tries ./rbg from outside: clocks, logs, disks, floods, and 1000 matches and 100 halls through a proxy that disturbs; SHORT=yes, and WHAT names parts (after make build, with gcc)'
-	@echo 'make page     plays a match of chess, hex, abalone and reversi, makes a page of each, and takes pictures by a browser if there is one (after make build)'
+	@echo 'make page     plays a match of chess, hex, abalone and reversi, and makes a page of each; in a browser, if there is one, plays games by clicks and keys on the page of ./rbg_author play, edits their files, and takes pictures (after make build)'
 	@echo 'make editor   talks with ./rbg_author lsp as editors do, with EDITS=10000 random edits of the games (after make build)'
 	@echo 'make imported compares boards that ./rbg_author import writes as graphs with their geometry, BOARDS=500 random ones, and comments (after make build)'
 	@echo 'make compare  compares ./rbg with the interpreter of tools/slow, on stored cases and N=10000 others of SEED=1 (after make build)'
@@ -118,7 +118,7 @@ page:
 	@test -x ./rbg && test -x ./rbg_author || { echo 'make page needs ./rbg and ./rbg_author: run make build first'; exit 1; }
 	@python3 tools/page/contrast.py
 	@python3 tools/page/page.py
-	@if python3 -c 'import sys; sys.path.insert(0, "tools/page"); import browser; sys.exit(not browser.is_there())'; then python3 tools/page/wrong.py && python3 tools/page/playing.py; else echo 'no game is played by clicks: there is no chromium with its driver'; fi
+	@if python3 -c 'import sys; sys.path.insert(0, "tools/page"); import browser; sys.exit(not browser.is_there())'; then python3 tools/page/wrong.py && python3 tools/page/playing.py && python3 tools/page/working.py && python3 tools/page/reading.py; else echo 'no game is played by clicks: there is no chromium with its driver'; fi
 
 # The library for programs in C, and its trials: TEXTS random texts are spoilt, and CALLS random calls are made.
 TEXTS := 10000

@@ -4,7 +4,8 @@
     package_trial.py GAME.. [--rbg FILE]
 
 In each game one player thinks and the other one chooses at random. In one more game the keeper makes moves that a player
-could make too, and in another one each of two moves ends play. The match of the first game is played once more: `rbg serve`
+could make too, and in another one each of two moves ends play. In each game a seed gives the random moves that `rbg ask`
+makes for it. The match of the first game is played once more: `rbg serve`
 is killed in the middle of it, and lets it go on from its log. Each game has two players.
 """
 
@@ -12,6 +13,7 @@ import argparse
 import os
 import random
 import signal
+import subprocess
 import sys
 import tempfile
 import threading
@@ -107,6 +109,16 @@ def resumed(program: str, game: Path, folder: Path) -> str:
     return check(program, game, table.record(), folder)
 
 
+def compare_samples(program: str, game: Path) -> None:
+    """A seed gives the same random moves here and in `rbg ask`."""
+    for seed, most in [(7, 12), (2**64 - 1, 1), (3, 10_000)]:
+        asked = subprocess.run([program, "ask", str(game)], input=f"sample {seed} {most}\n", capture_output=True, text=True, check=True)
+        first, *lines = asked.stdout.splitlines()
+        made = rbg.Game.load(str(game)).state().sample(most, seed).history
+        if made != lines[: int(first.split()[1])]:
+            raise Wrong(f"seed {seed} makes other moves in rbg ask: {made[:3]} and {lines[:3]}")
+
+
 def main() -> int:
     parser = argparse.ArgumentParser(description=__doc__.splitlines()[0])
     parser.add_argument("games", type=Path, nargs="+", metavar="GAME")
@@ -120,6 +132,7 @@ def main() -> int:
         ending.write_text(ENDING)
         try:
             for game in words.games:
+                compare_samples(program, game)
                 table = Table(program, game, [rbg.Thinker(0.1, 1), by_chance(1)])
                 print(f"{game.name}: {check(program, game, table.record(), folder)}, good", flush=True)
             table = Table(program, shared, [by_chance(1), by_chance(2)])

@@ -183,6 +183,11 @@ rbg_result rbg_playouts(rbg_state *state, uint64_t seed, uint64_t count, uint64_
    many. They can be undone there. A state that `to` held is let go, if the call succeeds. */
 rbg_result rbg_play_on(rbg_state *from, rbg_state *to, uint64_t seed, uint64_t most, uint64_t *made);
 
+/* As rbg_play_on, but it stores the moves that were made, as numbers in the form of rbg_moves, and how many numbers these are.
+   RBG_SMALL if they are more than the room: both handles are as before then. A seed always gives the same moves, those of
+   `sample` of `rbg ask`. */
+rbg_result rbg_sample(rbg_state *from, rbg_state *to, uint64_t seed, uint64_t most, uint32_t *numbers, size_t room, uint64_t *needed);
+
 #ifdef __cplusplus
 }
 #endif

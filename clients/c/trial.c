@@ -151,13 +151,45 @@ static rbg_result listed(rbg_state *state) {
   return result;
 }
 
+/* A copy on which random moves were made: those that are stored lead there, and are undone. Without room nothing changes. */
+static rbg_result sampled(rbg_state *state, rbg_state *other) {
+  if (state == other)
+    return RBG_OK;
+  size_t room = chance(4) ? 9000 : chance(64);
+  uint64_t needed = 0, made = 0, count = 0, one = 0, two = 0, seed_of = chance(1000), most = chance(12);
+  uint32_t *numbers = room_for(room, 4);
+  rbg_state copy = RBG_NO_STATE, again = RBG_NO_STATE;
+  uint64_t key_before = 0, key_after = 0;
+  rbg_result before = rbg_key(other, &key_before);
+  rbg_result result = rbg_sample(state, other, seed_of, most, numbers, room, &needed);
+  check(result != RBG_SMALL || (needed > room && ((char *)numbers)[0] == 0x5a), "a buffer that is too small");
+  if (result == RBG_SMALL)
+    check(rbg_key(other, &key_after) == before && key_after == key_before, "the other handle, without room");
+  if (result == RBG_OK) {
+    check(rbg_copy(state, &copy) == RBG_OK && rbg_moves_made(other, &made) == RBG_OK && made <= most, "so many moves");
+    for (uint64_t at = 0; at < needed; at += 1 + 2 * numbers[at], count++)
+      check(rbg_make(&copy, (const rbg_pair *)&numbers[at + 1], numbers[at]) == RBG_OK, "a move that was made");
+    check(count == made && rbg_play_on(state, &again, seed_of, most, &count) == RBG_OK && count == made, "as many moves");
+    check(rbg_key(&copy, &one) == RBG_OK && rbg_key(other, &two) == RBG_OK && one == two, "the moves lead there");
+    check(rbg_key(&again, &one) == RBG_OK && one == two, "the same moves");
+    for (count = 0; count < made; count++)
+      check(rbg_undo(&again) == RBG_OK, "a random move is undone");
+    check(rbg_key(&again, &one) == RBG_OK && rbg_key(state, &two) == RBG_OK && one == two, "all random moves are undone");
+    rbg_free(&copy), rbg_free(&again);
+  }
+  free(numbers);
+  return result;
+}
+
 /* One call, good or bad. */
 static rbg_result call(rbg_state *state, rbg_state *other) {
   uint64_t key = 0, count = 0, made = 0;
   uint32_t player = 0;
-  switch (chance(17)) {
+  switch (chance(18)) {
   case 16:
     return listed(state);
+  case 17:
+    return sampled(state, other);
   case 12:
     return tell(state);
   case 13:

@@ -38,10 +38,8 @@ inline Move move_of(const std::string &text) {
   Move move;
   const char *at = text.c_str();
   for (char *end = nullptr; *at; at = end) {
-    rbg_pair pair;
-    pair.vertex = static_cast<uint32_t>(std::strtoul(at, &end, 10));
-    pair.position = static_cast<uint32_t>(std::strtoul(end, &end, 10));
-    move.push_back(pair);
+    auto vertex = static_cast<uint32_t>(std::strtoul(at, &end, 10));
+    move.push_back({vertex, static_cast<uint32_t>(std::strtoul(end, &end, 10))});
   }
   return move;
 }
@@ -97,11 +95,7 @@ public:
   }
 
   /// The player to move, from 1; 0 is the keeper, or nobody.
-  uint32_t player() const {
-    uint32_t found = 0;
-    must(rbg_player(at(), &found));
-    return found;
-  }
+  uint32_t player() const { return number(rbg_player); }
 
   /// A number that is the same for equal places, and hardly ever for others.
   uint64_t key() const { return number(rbg_key); }
@@ -129,28 +123,23 @@ public:
 
   /// The action at a position, from 1.
   Action action(uint64_t position) const {
-    Action found{0, std::vector<uint16_t>(1)};
-    uint64_t needed = 0;
-    rbg_result result = rbg_action(at(), position, &found.kind, found.numbers.data(), 1, &needed);
-    found.numbers.resize(needed + 1);
-    must(result == RBG_SMALL ? rbg_action(at(), position, &found.kind, found.numbers.data(), needed, &needed) : result);
-    found.numbers.resize(needed);
-    return found;
+    uint32_t kind = 0;
+    auto call = [&](uint16_t *numbers, size_t room, uint64_t *needed) { return rbg_action(at(), position, &kind, numbers, room, needed); };
+    std::vector<uint16_t> numbers = stored<uint16_t>(call);
+    return {kind, numbers};
   }
 
   /// The names of the players, the pieces, the variables or the directions: RBG_PLAYERS, RBG_PIECES, ..
   std::vector<std::string> names(uint32_t kind) const {
     std::vector<std::string> found;
-    for (;;) {
-      uint64_t needed = 0;
-      uint8_t none = 0;
-      rbg_result result = rbg_name(at(), kind, found.size(), &none, 0, &needed);
-      if (result == RBG_RANGE) return found;
-      std::string name(needed + 1, 0);
-      must(rbg_name(at(), kind, found.size(), reinterpret_cast<uint8_t *>(&name[0]), needed, &needed));
-      name.resize(needed);
-      found.push_back(name);
+    uint64_t needed = 0;
+    for (uint8_t none = 0; rbg_name(at(), kind, found.size(), &none, 0, &needed) != RBG_RANGE;) {
+      auto name = stored<uint8_t>([&](uint8_t *bytes, size_t room, uint64_t *length) {
+        return rbg_name(at(), kind, found.size(), bytes, room, length);
+      });
+      found.emplace_back(name.begin(), name.end());
     }
+    return found;
   }
 
   /// How many legal moves there are. Play is finished if there is none.
@@ -166,17 +155,7 @@ public:
   }
 
   /// All legal moves, in the order of their indices.
-  std::vector<Move> moves() const {
-    std::vector<uint32_t> numbers = items<uint32_t>(rbg_moves, at());
-    std::vector<Move> found;
-    for (size_t i = 0; i < numbers.size(); i += 1 + 2 * numbers[i]) {
-      Move move;
-      for (uint32_t pair = 0; pair < numbers[i]; pair++)
-        move.push_back({numbers[i + 1 + 2 * pair], numbers[i + 2 + 2 * pair]});
-      found.push_back(move);
-    }
-    return found;
-  }
+  std::vector<Move> moves() const { return moves_of(items<uint32_t>(rbg_moves, at())); }
 
   /// Makes the move of this index, or these pairs, and the keeper's moves after it.
   void make(uint64_t index) { must(rbg_make_found(&held, index)); }
@@ -207,11 +186,29 @@ public:
     return to;
   }
 
+  /// The same, and the moves that were made.
+  std::pair<State, std::vector<Move>> sample(uint64_t seed, uint64_t most) const {
+    State to;
+    auto moves = stored<uint32_t>([&](uint32_t *numbers, size_t room, uint64_t *needed) {
+      return rbg_sample(at(), &to.held, seed, most, numbers, room, needed);
+    });
+    return {std::move(to), moves_of(moves)};
+  }
+
 private:
   rbg_state held = RBG_NO_STATE;
 
   // The calls that leave a state as it is take it without `const`, since they look into it by moving it.
   rbg_state *at() const { return const_cast<rbg_state *>(&held); }
+
+  static std::vector<Move> moves_of(const std::vector<uint32_t> &numbers) {
+    std::vector<Move> found;
+    for (size_t i = 0; i < numbers.size(); i += 1 + 2 * numbers[i]) {
+      Move &move = found.emplace_back();
+      for (size_t pair = i + 1; move.size() < numbers[i]; pair += 2) move.push_back({numbers[pair], numbers[pair + 1]});
+    }
+    return found;
+  }
 
   static const uint8_t *bytes(const std::string &text) { return reinterpret_cast<const uint8_t *>(text.c_str()); }
 
@@ -221,23 +218,27 @@ private:
   }
 
   void copy(const State &other) {
-    rbg_result result = rbg_copy(other.at(), &held);
-    if (result != RBG_EMPTY) must(result);
+    if (rbg_result result = rbg_copy(other.at(), &held); result != RBG_EMPTY) must(result);
   }
 
-  uint64_t number(rbg_result (*call)(rbg_state *, uint64_t *)) const {
-    uint64_t found = 0;
+  template <typename T> T number(rbg_result (*call)(rbg_state *, T *)) const {
+    T found = 0;
     must(call(at(), &found));
     return found;
   }
 
   template <typename T> static std::vector<T> items(rbg_result (*call)(rbg_state *, T *, size_t, uint64_t *), rbg_state *of) {
+    return stored<T>([&](T *items, size_t room, uint64_t *needed) { return call(of, items, room, needed); });
+  }
+
+  // The items that a call stores. It is asked first how many they are.
+  template <typename T, typename Call> static std::vector<T> stored(Call call) {
     uint64_t needed = 0;
     T none = 0;
-    rbg_result result = call(of, &none, 0, &needed);
+    rbg_result result = call(&none, 0, &needed);
     if (result != RBG_OK && result != RBG_SMALL) throw Refused(result);
     std::vector<T> found(needed + 1);
-    must(call(of, found.data(), needed, &needed));
+    must(call(found.data(), needed, &needed));
     found.resize(needed);
     return found;
   }

@@ -1,8 +1,6 @@
 //! States of games in Rust, over the library of rbg.h. Each state lets go what it holds.
 
-use std::cell::Cell;
-use std::ffi::c_void;
-use std::fmt;
+use std::{cell::Cell, ffi::c_void, fmt};
 
 #[repr(C)]
 struct Handle {
@@ -45,6 +43,7 @@ extern "C" {
     fn rbg_undo(state: *mut Handle) -> u32;
     fn rbg_playouts(state: *mut Handle, seed: u64, count: u64, rows: *mut u64, room: usize, needed: *mut u64) -> u32;
     fn rbg_play_on(from: *mut Handle, to: *mut Handle, seed: u64, most: u64, made: *mut u64) -> u32;
+    fn rbg_sample(from: *mut Handle, to: *mut Handle, seed: u64, most: u64, numbers: *mut u32, room: usize, needed: *mut u64) -> u32;
 }
 
 /// Why a call wasn't done: the number of its answer in rbg.h, as 5 if a move isn't legal.
@@ -58,8 +57,6 @@ impl fmt::Display for Refused {
 }
 
 impl std::error::Error for Refused {}
-
-const SMALL: u32 = 7;
 
 fn answer(result: u32) -> Result<(), Refused> {
     if result == 0 { Ok(()) } else { Err(Refused(result)) }
@@ -86,6 +83,17 @@ pub enum Kind {
 pub struct Ending {
     pub scores: Vec<u64>,
     pub matches: u64,
+}
+
+macro_rules! numbers {
+    ($($(#[$text:meta])* $name:ident: $call:ident -> $number:ty;)*) => {$(
+        $(#[$text])*
+        pub fn $name(&mut self) -> Result<$number, Refused> {
+            let mut number = 0;
+            answer(unsafe { $call(&mut *self.handle, &mut number) })?;
+            Ok(number)
+        }
+    )*};
 }
 
 macro_rules! items {
@@ -140,34 +148,20 @@ impl State {
         State::made(|to| unsafe { rbg_unpack(&mut *self.handle, bytes.as_ptr(), bytes.len(), to) })
     }
 
-    /// The player to move, from 1; 0 is the keeper, or nobody.
-    pub fn player(&mut self) -> Result<u32, Refused> {
-        self.number(rbg_player)
-    }
-
-    fn number<T: Default>(&mut self, call: unsafe extern "C" fn(*mut Handle, *mut T) -> u32) -> Result<T, Refused> {
-        let mut number = T::default();
-        answer(unsafe { call(&mut *self.handle, &mut number) })?;
-        Ok(number)
-    }
-
-    /// How many moves can be undone.
-    pub fn moves_made(&mut self) -> Result<u64, Refused> {
-        self.number(rbg_moves_made)
-    }
-
-    /// A number that is the same for equal places, and hardly ever for others.
-    pub fn key(&mut self) -> Result<u64, Refused> {
-        self.number(rbg_key)
-    }
-
-    /// Finds the legal moves, and returns how many they are. Play is finished if there is none.
-    pub fn count(&mut self) -> Result<u64, Refused> {
-        self.number(rbg_find_moves)
+    numbers! {
+        /// The player to move, from 1; 0 is the keeper, or nobody.
+        player: rbg_player -> u32;
+        /// How many moves can be undone.
+        moves_made: rbg_moves_made -> u64;
+        /// A number that is the same for equal places, and hardly ever for others.
+        key: rbg_key -> u64;
+        /// Finds the legal moves, and returns how many they are. Play is finished if there is none.
+        count: rbg_find_moves -> u64;
     }
 
     /// The items that a call stores: it is asked first how many they are.
     fn items<T: Clone + Default>(&mut self, call: impl Fn(*mut Handle, *mut T, usize, *mut u64) -> u32) -> Result<Vec<T>, Refused> {
+        const SMALL: u32 = 7;
         let (mut items, mut needed) = (Vec::new(), 0);
         match call(&mut *self.handle, items.as_mut_ptr(), 0, &mut needed) {
             SMALL => items.resize(needed as usize, T::default()),
@@ -244,5 +238,13 @@ impl State {
     /// A copy on which random moves were made, at most this many, until play is finished. They can be undone there.
     pub fn play_on(&mut self, seed: u64, most: u64) -> Result<State, Refused> {
         State::made(|to| unsafe { rbg_play_on(&mut *self.handle, to, seed, most, &mut 0) })
+    }
+
+    /// The same, and the moves that were made, in the form of `moves`.
+    pub fn sample(&mut self, seed: u64, most: u64) -> Result<(State, Vec<u32>), Refused> {
+        let mut to = State::empty();
+        let handle: *mut Handle = &mut *to.handle;
+        let moves = self.items(|from, items, room, needed| unsafe { rbg_sample(from, handle, seed, most, items, room, needed) })?;
+        Ok((to, moves))
     }
 }

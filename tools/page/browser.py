@@ -13,6 +13,9 @@ import urllib.request
 
 BROWSERS = ["chromium", "chromium-browser", "google-chrome"]
 ELEMENT = "element-6066-11e4-a52e-4f735466cecf"
+# keys as the protocol names them
+TAB, ENTER, ESCAPE, BACKSPACE = "\ue004", "\ue007", "\ue00c", "\ue003"
+END, HOME, LEFT, UP, RIGHT, DOWN = "\ue010", "\ue011", "\ue012", "\ue013", "\ue014", "\ue015"
 
 
 def browser_path():
@@ -104,6 +107,11 @@ class Browser:
         actions = [action for key in keys for action in ({"type": "keyDown", "value": key}, {"type": "keyUp", "value": key})]
         self.ask("POST", "/actions", {"actions": [{"type": "key", "id": "keys", "actions": actions}]})
 
+    def click_at(self, x, y):
+        """Clicks at a point of the window with the mouse."""
+        for kind, button in [("mouseMoved", "none"), ("mousePressed", "left"), ("mouseReleased", "left")]:
+            self.command("Input.dispatchMouseEvent", type=kind, x=x, y=y, button=button, clickCount=int(button == "left"))
+
     def text(self, selector):
         return self.ask("GET", f"/element/{self.find(selector)}/text")
 
@@ -115,6 +123,10 @@ class Browser:
                 return found
             time.sleep(0.02)
         raise Fault(f"not within {seconds} s: {script}")
+
+    def command(self, name, **words):
+        """A command of the browser's own protocol."""
+        return self.ask("POST", "/goog/cdp/execute", {"cmd": name, "params": words})
 
     def picture(self, path):
         pathlib.Path(path).write_bytes(base64.b64decode(self.ask("GET", "/screenshot")))

@@ -10,7 +10,7 @@ import random
 import socket
 import sys
 
-from playing import DATA, Server
+from table import DATA, Server
 
 
 def talk(port, said, patience=30):
@@ -65,6 +65,11 @@ def main():
             if answered != status:
                 sys.exit(f"{said[:80]!r} was answered by {answered}, and not by {status}")
         idle = [socket.create_connection(("127.0.0.1", port)) for _ in range(60)]
+        try:
+            with socket.create_connection(("127.0.0.2", port), timeout=5):
+                sys.exit("another address than 127.0.0.1 is listened on")
+        except OSError:
+            pass
         if talk(port, ask) != "200":
             sys.exit("beside 60 lines that say nothing there was no answer")
         for line in idle:

@@ -179,6 +179,14 @@ class AskedPlace:
         [answer] = self.ask("random %d %d" % (seed, count))
         return endings_of(answer)
 
+    def sample(self, most: int, seed: int) -> "tuple[AskedPlace, list[Move]]":
+        """A place of its own after at most this many random moves, and these."""
+        [answer] = self.ask("sample %d %d" % (seed, most))
+        made = [" ".join(line) for line in answer[1:-1]]
+        copy = self.copy()
+        copy.history = self.history + made
+        return copy, made
+
     def try_out(self, moves: list[Move], count: int, seed: int, players: int) -> list[Tried]:
         """Plays this many random matches after each of these moves. All is asked at once."""
         questions: list[Question] = []

@@ -90,9 +90,12 @@ class Backend:
         first = self.line()
         lines = [first]
         word = first[0]
-        if word in ("moves", "names", "players", "state"):
-            more = int(first[1]) if word == "moves" else 2 if word == "players" else 3
-            lines += [self.line() for _ in range(more)]
+        if word in ("moves", "search"):
+            lines += [self.line() for _ in range(int(first[1]))]
+        elif word == "sample":
+            lines += [self.line() for _ in range(int(first[1]) + 1)]
+        elif word in ("players", "state"):
+            lines += [self.line() for _ in range(2 if word == "players" else 3)]
         elif word == "shape":
             lines += [self.line() for _ in range(2 + int(first[2]) + int(first[3]))]
         elif word == "random":

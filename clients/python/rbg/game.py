@@ -8,12 +8,15 @@
 ...     print(game.unpack(other.pack()) == other, other.undo() == state)
 ...     print(sum(ending.matches for ending in state.playouts(100, seed=1)))
 ...     print([(it.move, it.matches) for it in state.search(10, seed=1)][4])
+...     later = state.sample(3, seed=1)
+...     print(len(later.history), later.player, later.undo(3) == state, state.sample(20, seed=1).is_over)
 ...     print(game.shape.directions, game.shape.edges[0], game.shape.actions[:3])
 ['first', 'second'] 1 9 [0, 0, 0, 0]
 2 8 9 False
 True True
 100
 ('4 9 4 10', 10)
+3 2 True True
 ['up', 'down', 'left', 'right'] [None, 3, None, 1] [('assign', [0]), ('assign', [1]), ('switch', [1])]
 """
 
@@ -174,6 +177,12 @@ class State:
     def playouts(self, count: int = 1, seed: int = 0) -> list[Ending]:
         """How this many random matches from here end."""
         return self.stands.playouts(count, seed)
+
+    def sample(self, most: int, seed: int = 0) -> "State":
+        """A state of its own, in which at most this many random moves were made, 1 to 1,000,000, and fewer only if play is
+        over. Its history ends with them, and they can be undone. The seed is below 2 ** 64."""
+        stands, moves = self.stands.sample(most, seed)
+        return State(self.game, self.history + moves, stands)
 
     def search(self, count: int, seed: int = 0, moves: Optional[list[Move]] = None) -> list[Tried]:
         """Tries out these moves, or all that are legal: this many random matches after each."""

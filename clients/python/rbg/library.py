@@ -18,9 +18,10 @@ import ctypes
 import ctypes.util
 import os
 import struct
+import sys
 from ctypes import POINTER, Structure, byref, c_size_t, c_uint8, c_uint16, c_uint32, c_uint64, c_void_p
 from functools import lru_cache
-from typing import Any, Optional
+from typing import Any, Callable, Optional
 
 from rbg.backend import Refused
 from rbg.places import Shape
@@ -31,8 +32,10 @@ WORDS = {
 }  # fmt: skip
 SMALL = 7
 KEPT = 1 << 16  # so many spellings of moves are kept
+MOST = 1_000_000  # so many random matches or moves a call makes, at most
 PLAYERS, PIECES, VARIABLES, DIRECTIONS = range(4)
 ROOM = 4096  # so many numbers of moves have room at first
+FIRST = 0 if sys.byteorder == "little" else 3  # the byte of a number that has all of it, if it is below 256
 NOWHERE = 2**32 - 1  # the number of no vertex
 KINDS = ["shift", "on", "off", "assign", "compare", "switch", "positive", "negative"]
 
@@ -67,6 +70,7 @@ CALLS: dict[str, list[Any]] = {
     "rbg_hear": [STATE, PAIRS, c_size_t],
     "rbg_undo": [STATE],
     "rbg_playouts": [STATE, c_uint64, c_uint64, NUMBER, c_size_t, NUMBER],
+    "rbg_sample": [STATE, STATE, c_uint64, c_uint64, c_void_p, c_size_t, c_void_p],
 }
 
 
@@ -147,6 +151,10 @@ class Rooms:
         self.room, self.numbers = room, (c_uint32 * room)()
         self.of_bytes = memoryview(self.numbers).cast("B")
 
+    def stored(self) -> bytes:
+        """The numbers that a call has stored."""
+        return self.of_bytes[: 4 * self.needed.value].tobytes()
+
 
 class Held:
     """A state of play, behind its handle."""
@@ -154,7 +162,7 @@ class Held:
     def __init__(self, library: Library, rooms: "Optional[Rooms]" = None):
         self.library, self.calls, self.handle = library, library.calls, Handle()
         self.here = byref(self.handle)
-        self.found: Optional[dict[str, int]] = None  # the legal moves, if they were asked for
+        self.found: Optional[list[bytes]] = None  # the pairs of the legal moves, if they were asked for
         self.rooms = rooms or Rooms()
         self.made = 0  # how many moves can be undone
 
@@ -249,19 +257,11 @@ class Held:
         """How many legal moves there are."""
         return self.number("rbg_find_moves")
 
-    def moves(self) -> dict[str, int]:
-        """The legal moves, as in messages and in the order of their pairs, with their indices."""
+    def moves(self) -> list[str]:
+        """The legal moves, as in messages and in the order of their pairs."""
         if self.found is None:
-            numbers, at = self.numbers(), 0
-            listed: list[tuple[bytes, str]] = []
-            total, add = len(numbers), listed.append
-            while at < total:
-                end = at + 4 + 8 * numbers[at]  # a move has at most 200 pairs: the first byte is their number
-                add(spelt(numbers[at + 4 : end]))
-                at = end
-            order = sorted(range(len(listed)), key=listed.__getitem__)
-            self.found = {listed[index][1]: index for index in order}
-        return self.found
+            self.found = cut(self.numbers())
+        return [TEXTS[pairs] for pairs in sorted(self.found, key=ORDERS.__getitem__)]
 
     def numbers(self) -> bytes:
         """The legal moves as numbers of four bytes: of each how many pairs it has, and these."""
@@ -271,19 +271,20 @@ class Held:
             rooms.widen(rooms.needed.value)
             result = call(self.here, rooms.numbers, rooms.room, rooms.needs)
         self.answer("rbg_moves", result)
-        return rooms.of_bytes[: 4 * rooms.needed.value].tobytes()
+        return rooms.stored()
 
     def make(self, move: str) -> None:
         """Makes a move, and the keeper's moves after it."""
-        if self.found is not None and move in self.found:
-            self.ask("rbg_make_found", self.found[move])
+        numbers, length, pairs = pairs_of(move)
+        if self.found is not None and pairs in self.found:
+            self.answer(move, self.calls.rbg_make_found(self.here, self.found.index(pairs)))
         else:
-            self.ask("rbg_make", *pairs_of(move))
+            self.answer(move, self.calls.rbg_make(self.here, numbers, length))
         self.found, self.made = None, self.made + 1
 
     def hear(self, move: str) -> None:
         """Makes a move as a referee passes it on."""
-        self.ask("rbg_hear", *pairs_of(move))
+        self.ask("rbg_hear", *pairs_of(move)[:2])
         self.found, self.made = None, 0
 
     def undo(self) -> None:
@@ -307,10 +308,24 @@ class Held:
         self.ask("rbg_unpack", array_of(packed), len(packed), to.here)
         return to
 
+    def sample(self, most: int, seed: int) -> "tuple[Held, list[str]]":
+        """A copy on which at most this many random moves were made, and these."""
+        if not 0 < most <= MOST:
+            raise Refused("form")
+        to, rooms = Held(self.library, self.rooms), self.rooms
+        result = self.calls.rbg_sample(self.here, to.here, seed, most, rooms.numbers, rooms.room, rooms.needs)
+        if result == SMALL:
+            rooms.widen(rooms.needed.value)
+            result = self.calls.rbg_sample(self.here, to.here, seed, most, rooms.numbers, rooms.room, rooms.needs)
+        self.answer("rbg_sample", result)
+        moves = [TEXTS[pairs] for pairs in cut(rooms.stored())]
+        to.made = len(moves)
+        return to, moves
+
     def playouts(self, seed: int, count: int) -> list[list[int]]:
         """A row for each ending of random matches: how many ended so, and the scores. Those that were stopped have none."""
         needed, width = c_uint64(), len(self.scores) + 1
-        if not 0 < count <= 1_000_000:
+        if not 0 < count <= MOST:
             raise Refused("form")
         room = min(count, 64) * width
         rows = (c_uint64 * room)()
@@ -323,25 +338,49 @@ class Held:
         return [list(rows[at : at + width]) for at in range(0, needed.value, width)]
 
 
-@lru_cache(KEPT)
-def spelt(pairs: bytes) -> tuple[bytes, str]:
-    """The move of these pairs: bytes by which moves are in the order of their pairs, and its text.
+def cut(numbers: bytes) -> list[bytes]:
+    """The pairs of each of the moves that `rbg_moves` has stored.
 
-    >>> moves = [spelt(struct.pack(f"{len(move)}I", *move)) for move in ((4, 300), (4, 9, 4, 10), (4, 9))]
-    >>> [text for _, text in sorted(moves)]
-    ['4 9', '4 9 4 10', '4 300']
+    >>> [struct.unpack(f"{len(pairs) // 4}I", pairs) for pairs in cut(struct.pack("8I", 1, 4, 9, 2, 4, 9, 4, 10))]
+    [(4, 9), (4, 9, 4, 10)]
     """
-    numbers = struct.unpack(f"{len(pairs) // 4}I", pairs)
-    return struct.pack(f">{len(numbers)}I", *numbers), " ".join(map(str, numbers))
+    found, at, total = [], 0, len(numbers)
+    while at < total:
+        end = at + 4 + 8 * numbers[at + FIRST]
+        found.append(numbers[at + 4 : end])
+        at = end
+    return found
+
+
+class Kept(dict[bytes, str]):
+    """What was made of the pairs of moves, which are met again and again."""
+
+    def __init__(self, make: Callable[..., str]):
+        super().__init__()
+        self.make = make
+
+    def __missing__(self, pairs: bytes) -> str:
+        if len(self) >= KEPT:
+            self.clear()
+        made = self[pairs] = self.make(struct.unpack(f"{len(pairs) // 4}I", pairs))
+        return made
+
+
+# The texts of moves, and others by which they are in the order of their pairs.
+TEXTS = Kept(lambda numbers: " ".join(map(str, numbers)))
+ORDERS = Kept(lambda numbers: struct.pack(f">{len(numbers)}I", *numbers).decode("latin-1"))
 
 
 @lru_cache(KEPT)
-def pairs_of(move: str) -> tuple[Any, int]:
-    """The numbers of a move's pairs, which nobody changes, and how many pairs they are.
+def pairs_of(move: str) -> tuple[Any, int, bytes]:
+    """The numbers of a move's pairs, which nobody changes, how many pairs they are, and the bytes of the numbers.
 
-    >>> numbers, length = pairs_of("4 9 4 10")
-    >>> list(numbers), length
-    ([4, 9, 4, 10], 2)
+    >>> numbers, length, pairs = pairs_of("4 9 4 10")
+    >>> list(numbers), length, TEXTS[pairs]
+    ([4, 9, 4, 10], 2, '4 9 4 10')
+    >>> moves = [pairs_of(move)[2] for move in ("4 300", "4 9 4 10", "4 9")]
+    >>> [TEXTS[pairs] for pairs in sorted(moves, key=ORDERS.__getitem__)]
+    ['4 9', '4 9 4 10', '4 300']
     """
     try:
         numbers = list(map(int, move.split()))
@@ -349,4 +388,5 @@ def pairs_of(move: str) -> tuple[Any, int]:
         raise Refused("form", move) from None
     if len(numbers) % 2 or not all(0 <= number < 2**32 for number in numbers):
         raise Refused("form", move)
-    return (c_uint32 * max(1, len(numbers)))(*numbers), len(numbers) // 2
+    array = (c_uint32 * max(1, len(numbers)))(*numbers)
+    return array, len(numbers) // 2, bytes(array)[: 4 * len(numbers)]

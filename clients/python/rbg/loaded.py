@@ -78,7 +78,7 @@ class LoadedPlace:
 
     def moves(self, most: Optional[int]) -> list[Move]:
         """The legal moves, in the order of their pairs, or `most` of them if there are more."""
-        return list(self.held.moves())[:most]
+        return self.held.moves()[:most]
 
     def make(self, move: Move) -> None:
         """Makes a move, and the keeper's moves after it."""
@@ -106,6 +106,11 @@ class LoadedPlace:
     def playouts(self, count: int, seed: int) -> list[Ending]:
         """How this many random matches from here end."""
         return endings_of(self.held, count, seed)
+
+    def sample(self, most: int, seed: int) -> "tuple[LoadedPlace, list[Move]]":
+        """A place of its own after at most this many random moves, and these."""
+        held, made = self.held.sample(most, seed)
+        return LoadedPlace(self.root, held), made
 
     def try_out(self, moves: list[Move], count: int, seed: int, players: int) -> list[Tried]:
         """Plays this many random matches after each of these moves."""

@@ -5,7 +5,7 @@ use crate::game_files::{Read, load_text, read_text};
 use crate::report::Report;
 use rbg_console::{Files, Note, Status, fill_file};
 use rbg_game::Game;
-use rbg_questions::{Matches, PlayedGame, Refusal, moves_of, playouts, put_details};
+use rbg_questions::{Matches, PlayedGame, QuestionError, moves_of, playouts, put_details};
 use rbg_record::LineFault;
 use rbg_workbench::record_text;
 use std::alloc::{AllocError, Global};
@@ -160,7 +160,7 @@ fn fill<F: Files>(alloc: Global, files: &mut F, name: &str, bytes: &[u8]) -> boo
     }
 }
 
-fn no_playouts(alloc: Global, refusal: Refusal) -> Result<Report, AllocError> {
+fn no_playouts(alloc: Global, refusal: QuestionError) -> Result<Report, AllocError> {
     let reason = reason_of(refusal)?;
     Ok(Report {
         text: reason.to_vec(alloc)?,
@@ -169,10 +169,10 @@ fn no_playouts(alloc: Global, refusal: Refusal) -> Result<Report, AllocError> {
 }
 
 /// The line that says why no matches were played. The other reasons concern other questions than a match.
-fn reason_of(refusal: Refusal) -> Result<&'static [u8], AllocError> {
+fn reason_of(refusal: QuestionError) -> Result<&'static [u8], AllocError> {
     match refusal {
-        Refusal::Over => Ok(b"over\n"),
-        Refusal::Keeper => Ok(b"keeper\n"),
+        QuestionError::Over => Ok(b"over\n"),
+        QuestionError::Keeper => Ok(b"keeper\n"),
         _ => Err(AllocError),
     }
 }

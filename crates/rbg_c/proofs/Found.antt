@@ -2,7 +2,7 @@
 use Rattle.std.proofs.Common.{◌≡◌, ℕ, ◌<◌, ◌≤◌, ◌^◌, ◌⊎◌, inl, inr, List, length, Bool, true, false, Result, Err, refl, sym, subst, arith}
 use Rattle.std.specs.Prelude.{Option, Some, IfSome, slice_get}
 use Rattle.rbg_base.proofs.Common.{get_or_from_slice_get, slice_get_within}
-use Rattle.rbg_questions.specs.declared.refusal.Refusal.{Refusal}
+use Rattle.rbg_questions.specs.declared.question_error.QuestionError.{QuestionError}
 use Rattle.rbg_rules.specs.Meaning.{AbstractGame, AbstractPlace, IsLegal, IsTooHard, list_moves}
 use Rattle.rbg_search.specs.declared.over.Over.{Over}
 use Rattle.rbg_search.specs.declared.over.Over.TheVariants.{Deep, Wide, Memory}
@@ -15,11 +15,6 @@ use Rattle.rbg_c.specs.States.{AbstractState, AreMoves, FindsMoves, IsState}
 are_moves : (game : AbstractGame) (place : AbstractPlace) (max : ℕ) (all : List (List (ℕ × ℕ))) (cut : Bool) (len : ℕ) → IsGathered game place max all cut → len ≡ length all → len < 2 ^ 63 → 2 ^ 63 ≤ max → AreMoves game place all
 are_moves game place max all true len gathered same small large = absurd (omega (arith, small, large, same, gathered.full refl))
 are_moves game place max all false len gathered same small large = record { legal = gathered.legal; different = gathered.different; whole = gathered.whole refl }
-
-pub gather_unlisted : (T : Type 0) (game : AbstractGame) (here place : AbstractPlace) (over : Over) → here ≡ place → (◌≡◌ {A = Result T Over} (Err over) (Err Deep) ⊎ ◌≡◌ {A = Result T Over} (Err over) (Err Wide) → IsTooHard game list_moves here) → IsUnlisted game place (refusal_of_over over)
-gather_unlisted T game here place Deep same hard = too_hard (subst (λ (p : AbstractPlace). IsTooHard game list_moves p) same (hard (inl refl)))
-gather_unlisted T game here place Wide same hard = too_hard (subst (λ (p : AbstractPlace). IsTooHard game list_moves p) same (hard (inr refl)))
-gather_unlisted T game here place Memory same hard = no_room
 
 -- what was found are the moves of the place
 found_are : (state : AbstractState) (moves : List (List (ℕ × ℕ))) → IsState state → state.found ≡ Some moves → AreMoves state.game state.place moves
@@ -46,9 +41,9 @@ finds_moves state game max moves cut len is same_game gathered same small large 
     record { moves = moves; are = moves_there state game max moves cut len same_game gathered same small large; many = same; is = refl }
 
 -- why a move isn't made, in a game that is the state's
-pub unmade_in : (state : AbstractState) (game : AbstractGame) (pairs : List (ℕ × ℕ)) (refusal : Refusal) → IsState state → game ≡ state.game → IsUnmade game state.place pairs refusal → IsUnmade state.game state.place pairs refusal
+pub unmade_in : (state : AbstractState) (game : AbstractGame) (pairs : List (ℕ × ℕ)) (refusal : QuestionError) → IsState state → game ≡ state.game → IsUnmade game state.place pairs refusal → IsUnmade state.game state.place pairs refusal
 unmade_in state game pairs refusal is same why = subst (λ (g : AbstractGame). IsUnmade g state.place pairs refusal) same why
 
 -- and why one that was heard isn't followed
-pub unfollowed_in : (state : AbstractState) (game : AbstractGame) (pairs : List (ℕ × ℕ)) (refusal : Refusal) → IsState state → game ≡ state.game → IsUnfollowed game state.place pairs refusal → IsUnfollowed state.game state.place pairs refusal
+pub unfollowed_in : (state : AbstractState) (game : AbstractGame) (pairs : List (ℕ × ℕ)) (refusal : QuestionError) → IsState state → game ≡ state.game → IsUnfollowed game state.place pairs refusal → IsUnfollowed state.game state.place pairs refusal
 unfollowed_in state game pairs refusal is same why = subst (λ (g : AbstractGame). IsUnfollowed g state.place pairs refusal) same why

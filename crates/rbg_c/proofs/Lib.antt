@@ -1,5 +1,4 @@
 mod Found
-mod Mixing
 mod Places
 mod Handles
 mod Kept

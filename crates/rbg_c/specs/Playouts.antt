@@ -1,17 +1,18 @@
 -- Matches that are played by chance from a state.
-use Rattle.std.specs.Prelude.{◌≡◌, ℕ, ◌<◌, ◌≤◌, List, [], ◌∷◌, length, Bool, true, false, Option, None, Some}
+use Rattle.std.specs.Prelude.{◌≡◌, ℕ, ◌+◌, ◌<◌, ◌≤◌, List, [], ◌∷◌, ◌++◌, length, drop, Bool, true, false, Option, None, Some}
 use Rattle.std.specs.List.{flat_map}
 use Rattle.rbg_rules.specs.Meaning.{AbstractGame, AbstractPlace, Finished}
-use Rattle.rbg_questions.specs.declared.refusal.Refusal.{Refusal}
-use Rattle.rbg_questions.specs.declared.refusal.Refusal.TheVariants.{Memory}
+use Rattle.rbg_questions.specs.declared.question_error.QuestionError.{QuestionError}
+use Rattle.rbg_questions.specs.declared.question_error.QuestionError.TheVariants.{Memory}
 use Rattle.rbg_questions.specs.Chance.{AreTallied, Counted, IsUnplayed, Plays}
 use Rattle.rbg_questions.specs.Limits.{IsCount}
 use Rattle.rbg_questions.specs.internal.Places.{IsUnlisted}
-use Rattle.rbg_c.specs.States.{AbstractState, Makes}
+use Rattle.rbg_c.specs.States.{AbstractState, Makes, beginning_at}
 use Rattle.rbg_c.specs.Stepping.{IsUnmadeAt}
 use Rattle.rbg_c.specs.Opening.{Keeps}
-use Rattle.rbg_c.specs.Results.{Refuses, empty, range}
+use Rattle.rbg_c.specs.Results.{Refuses, empty, memory, ok, range, small}
 use Rattle.rbg_c.specs.Filling.{Fills}
+use Rattle.rbg_c.specs.Listing.{numbers_of_move, numbers_of_moves}
 
 -- The row of matches that ended alike: how many they are, and the players' scores. Those that were stopped have none.
 abbrev pub ending_row : Option (List ℕ) → (matches : ℕ) → List ℕ
@@ -48,47 +49,57 @@ pub data PlaysOut (count : ℕ) (before after : Option AbstractState) (old new :
       Refuses (IsUnplayed state.game state.place) result →
       PlaysOut count before after old new needed result
 
--- A move by chance, or none.
---   moved: a legal move was made.
+-- A move by chance, or none, and the numbers before and after it.
+--   moved: a legal move was made, and its numbers are appended.
 --   rests: there is none, and play stands where it stood.
-pub data GoesOn (old : AbstractState) : Bool → (new : AbstractState) → Type 0 where
-  moved : {pairs : List (ℕ × ℕ)} {new : AbstractState} → Makes old pairs new → GoesOn old true new
-  rests : {new : AbstractState} →
+pub data GoesOn (old : AbstractState) : Bool → (new : AbstractState) → (before after : List ℕ) → Type 0 where
+  moved : {pairs : List (ℕ × ℕ)} {new : AbstractState} {before after : List ℕ} →
+      Makes old pairs new →
+      after ≡ before ++ numbers_of_move pairs →
+      GoesOn old true new before after
+  rests : {new : AbstractState} {before after : List ℕ} →
       Finished old.game old.place →
       new.game ≡ old.game →
       new.origin ≡ old.origin →
       new.before ≡ old.before →
       new.place ≡ old.place →
-      GoesOn old false new
+      after ≡ before →
+      GoesOn old false new before after
 
--- Moves by chance lead from a place to another: so many, at most `most`, and fewer only where play is finished.
-pub record PlaysOn (game : AbstractGame) (from : AbstractPlace) (most made : ℕ) (to : AbstractPlace) : Type 0 where
+-- These moves by chance lead from a state to another: at most `most`, and fewer only where play is finished. They can be
+-- undone.
+pub record PlaysOn (old : AbstractState) (most : ℕ) (moves : List (List (ℕ × ℕ))) (new : AbstractState) : Type 0 where
+  pub game : new.game ≡ old.game
+  pub origin : new.origin ≡ old.origin
+  pub plays : Plays old.game old.place moves new.place
+  pub made : length new.before ≡ length old.before + length moves
+  pub few : length moves ≤ most
+  pub ends : length moves < most → Finished old.game new.place
+
+-- Such moves lead there, and their numbers are appended.
+pub record TellsOn (old : AbstractState) (most : ℕ) (new : AbstractState) (before after : List ℕ) : Type 0 where
   pub moves : List (List (ℕ × ℕ))
-  pub plays : Plays game from moves to
-  pub many : made ≡ length moves
-  pub few : made ≤ most
-  pub ends : made < most → Finished game to
+  pub plays : PlaysOn old most moves new
+  pub told : after ≡ before ++ numbers_of_moves moves
 
--- The state is a copy of the other one, from which moves by chance were made. They can be undone.
-pub record IsPlayedOn (state : AbstractState) (most : ℕ) (played : AbstractState) : Type 0 where
-  pub game : played.game ≡ state.game
-  pub origin : played.origin ≡ state.origin
-  pub plays : PlaysOn state.game state.place most (length played.before) played.place
+-- a copy of a state
+abbrev pub copy_of : AbstractState → AbstractState
+copy_of state = beginning_at state.game state.origin state.place
 
 -- Why no moves are made by chance: some moves lead to a place where the next one isn't made.
 --   unlisted: the legal moves aren't listed there.
 --   unmade: one of them isn't made.
 --   no_memory: it says nothing of the place.
-pub data IsStuck (game : AbstractGame) (place : AbstractPlace) : Refusal → Type 0 where
-  unlisted : {refusal : Refusal} → IsUnlisted game place refusal → IsStuck game place refusal
-  unmade : {state : AbstractState} {index : ℕ} {refusal : Refusal} →
+pub data IsStuck (game : AbstractGame) (place : AbstractPlace) : QuestionError → Type 0 where
+  unlisted : {refusal : QuestionError} → IsUnlisted game place refusal → IsStuck game place refusal
+  unmade : {state : AbstractState} {index : ℕ} {refusal : QuestionError} →
       state.game ≡ game →
       state.place ≡ place →
       IsUnmadeAt state index refusal →
       IsStuck game place refusal
   no_memory : IsStuck game place Memory
 
-pub record IsNotPlayedOn (state : AbstractState) (refusal : Refusal) : Type 0 where
+pub record IsNotPlayedOn (state : AbstractState) (refusal : QuestionError) : Type 0 where
   pub moves : List (List (ℕ × ℕ))
   pub to : AbstractPlace
   pub plays : Plays state.game state.place moves to
@@ -100,9 +111,9 @@ pub record IsNotPlayedOn (state : AbstractState) (refusal : Refusal) : Type 0 wh
 --   fails: a move wasn't made, and all is as before.
 pub data PlaysCopy (from : Option AbstractState) (most : ℕ) (before after : Option AbstractState) (made result : ℕ) : Type 0 where
   holds_nothing : from ≡ None → after ≡ before → result ≡ empty → PlaysCopy from most before after made result
-  plays_copy : {state copy : AbstractState} →
+  plays_copy : {state copy : AbstractState} {moves : List (List (ℕ × ℕ))} →
       from ≡ Some state →
-      IsPlayedOn state most copy →
+      PlaysOn (copy_of state) most moves copy →
       made ≡ length copy.before →
       Keeps copy before after result →
       PlaysCopy from most before after made result
@@ -111,3 +122,43 @@ pub data PlaysCopy (from : Option AbstractState) (most : ℕ) (before after : Op
       after ≡ before →
       Refuses (IsNotPlayedOn state) result →
       PlaysCopy from most before after made result
+
+-- A state is kept in a handle, and numbers are put into a buffer.
+--   handed: both.
+--   no_room_for: they are more than it has room for, and all is as it was.
+--   unkept: memory ran out, and all is as it was.
+pub data HandsOut (state : AbstractState) (numbers : List ℕ) (before after : Option AbstractState) (old new : List ℕ) (needed result : ℕ)
+    : Type 0
+  where
+    handed :
+        after ≡ Some state →
+        new ≡ numbers ++ drop (length numbers) old →
+        needed ≡ length numbers →
+        result ≡ ok →
+        HandsOut state numbers before after old new needed result
+    no_room_for :
+        length old < length numbers →
+        after ≡ before →
+        new ≡ old →
+        needed ≡ length numbers →
+        result ≡ small →
+        HandsOut state numbers before after old new needed result
+    unkept : after ≡ before → new ≡ old → result ≡ memory → HandsOut state numbers before after old new needed result
+
+-- The same of a copy on which moves are made by chance, with their numbers.
+--   from_nothing: the other handle holds nothing, and all is as it was.
+--   sampled: it holds this state, and these moves were made.
+--   stopped: a move wasn't made, and all is as it was.
+pub data Samples (from : Option AbstractState) (most : ℕ) (before after : Option AbstractState) (old new : List ℕ) (needed result : ℕ) : Type 0 where
+  from_nothing : from ≡ None → after ≡ before → new ≡ old → result ≡ empty → Samples from most before after old new needed result
+  sampled : {state copy : AbstractState} {moves : List (List (ℕ × ℕ))} →
+      from ≡ Some state →
+      PlaysOn (copy_of state) most moves copy →
+      HandsOut copy (numbers_of_moves moves) before after old new needed result →
+      Samples from most before after old new needed result
+  stopped : {state : AbstractState} →
+      from ≡ Some state →
+      after ≡ before →
+      new ≡ old →
+      Refuses (IsNotPlayedOn state) result →
+      Samples from most before after old new needed result

@@ -1,7 +1,7 @@
 -- The numbers of results, as the header has them.
 use Rattle.std.specs.Prelude.{◌≡◌, ℕ}
-use Rattle.rbg_questions.specs.declared.refusal.Refusal.{Refusal}
-use Rattle.rbg_questions.specs.declared.refusal.Refusal.TheVariants as refusals
+use Rattle.rbg_questions.specs.declared.question_error.QuestionError.{QuestionError}
+use Rattle.rbg_questions.specs.declared.question_error.QuestionError.TheVariants as refusals
 use Rattle.rbg_game.specs.declared.error.LoadError.{LoadError}
 use Rattle.rbg_game.specs.declared.error.LoadError.TheVariants as errors
 
@@ -30,7 +30,7 @@ abbrev pub no_place : ℕ
 no_place = 9
 
 -- the number of a refusal
-abbrev pub number_of : Refusal → ℕ
+abbrev pub number_of : QuestionError → ℕ
 number_of refusals.Long = range
 number_of refusals.Empty = range
 number_of refusals.Return = range
@@ -51,7 +51,7 @@ layer_of (errors.Syntax cause) = 18
 layer_of (errors.Game cause) = 19
 
 -- The number is that of a refusal of which this holds.
-pub record Refuses (P : Refusal → Type 0) (result : ℕ) : Type 0 where
-  pub refusal : Refusal
+pub record Refuses (P : QuestionError → Type 0) (result : ℕ) : Type 0 where
+  pub refusal : QuestionError
   pub why : P refusal
   pub is : result ≡ number_of refusal

@@ -1,8 +1,8 @@
 -- Why moves aren't made.
 use Rattle.std.specs.Prelude.{◌≡◌, ℕ, ◌≤◌, List, length, slice_get, Some, None}
 use Rattle.rbg_base.specs.Move.{IsMoveLength}
-use Rattle.rbg_questions.specs.declared.refusal.Refusal.{Refusal}
-use Rattle.rbg_questions.specs.declared.refusal.Refusal.TheVariants.{Illegal}
+use Rattle.rbg_questions.specs.declared.question_error.QuestionError.{QuestionError}
+use Rattle.rbg_questions.specs.declared.question_error.QuestionError.TheVariants.{Illegal}
 use Rattle.rbg_questions.specs.internal.Places.{IsUnmade}
 use Rattle.rbg_c.specs.States.{AbstractState}
 
@@ -10,10 +10,10 @@ use Rattle.rbg_c.specs.States.{AbstractState}
 --   not_asked: the moves were not asked for.
 --   too_few: there are no more moves than that.
 --   unmade: the keeper's moves after it were given up, or there was no memory.
-pub data IsUnmadeAt (state : AbstractState) (index : ℕ) : Refusal → Type 0 where
+pub data IsUnmadeAt (state : AbstractState) (index : ℕ) : QuestionError → Type 0 where
   not_asked : state.found ≡ None → IsUnmadeAt state index Illegal
   too_few : {moves : List (List (ℕ × ℕ))} → state.found ≡ Some moves → length moves ≤ index → IsUnmadeAt state index Illegal
-  unmade : {moves : List (List (ℕ × ℕ))} {pairs : List (ℕ × ℕ)} {refusal : Refusal} →
+  unmade : {moves : List (List (ℕ × ℕ))} {pairs : List (ℕ × ℕ)} {refusal : QuestionError} →
       state.found ≡ Some moves →
       slice_get moves index ≡ Some pairs →
       IsUnmade state.game state.place pairs refusal →
@@ -22,6 +22,6 @@ pub data IsUnmadeAt (state : AbstractState) (index : ℕ) : Refusal → Type 0 w
 -- Why the move of some pairs isn't made.
 --   no_length: they are none, or more than 200.
 --   refused: the move is refused for this reason.
-pub data IsNoMove (Why : Refusal → Type 0) (pairs : List (ℕ × ℕ)) : Refusal → Type 0 where
+pub data IsNoMove (Why : QuestionError → Type 0) (pairs : List (ℕ × ℕ)) : QuestionError → Type 0 where
   no_length : ¬ IsMoveLength (length pairs) → IsNoMove Why pairs Illegal
-  refused : {refusal : Refusal} → Why refusal → IsNoMove Why pairs refusal
+  refused : {refusal : QuestionError} → Why refusal → IsNoMove Why pairs refusal

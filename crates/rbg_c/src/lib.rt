@@ -6,7 +6,6 @@ mod chance;
 mod faults;
 mod filling;
 mod handle;
-mod keys;
 mod listing;
 mod loose;
 mod naming;
@@ -17,7 +16,6 @@ mod playouts;
 mod results;
 mod shape;
 mod state;
-mod stepping;
 
 pub use handle::Handle;
 pub use pairs::ModifierPair;

@@ -65,7 +65,7 @@ fn numbers_of(alloc: Global, moves: &MoveList) -> Result<Vec<u32>, Memory>
 }
 
 /// Appends how many pairs a move has, and these.
-fn push_move(pairs: &[Pair], numbers: &mut Vec<u32>) -> Result<(), Memory>
+pub(crate) fn push_move(pairs: &[Pair], numbers: &mut Vec<u32>) -> Result<(), Memory>
     requires { IsMoveLength (length pairs.now) }
     ensures { OnOk result (numbers.new.items ≡ numbers.old.items ++ numbers_of_move pairs.now) }
 {

@@ -11,7 +11,7 @@ use crate::handle::Handle;
 use crate::pairs::{ModifierPair, fill_found, move_of};
 use crate::results::{EMPTY, OK, START, number};
 use crate::state::State;
-use rbg_questions::Refusal;
+use rbg_questions::QuestionError;
 use std::alloc::Global;
 
 /// `rbg_find_moves`: finds the legal moves, and tells how many they are.
@@ -102,7 +102,7 @@ pub extern "C" fn rbg_make(alloc: Global, state: &mut Handle, pairs: &[ModifierP
 }
 
 /// Makes the move of these pairs.
-fn make(state: &mut State, pairs: &[ModifierPair]) -> Result<(), Refusal>
+fn make(state: &mut State, pairs: &[ModifierPair]) -> Result<(), QuestionError>
     ensures made { OnOk result (Makes state.old pairs.now state.new) }
     ensures refused { IfErr result
         (IsNoMove (IsUnmade state.old.game state.old.place pairs.now) pairs.now) }
@@ -110,7 +110,7 @@ fn make(state: &mut State, pairs: &[ModifierPair]) -> Result<(), Refusal>
 {
     match move_of(pairs) {
         Some(found) => state.make(&found),
-        None => Err(Refusal::Illegal),
+        None => Err(QuestionError::Illegal),
     }
 }
 
@@ -138,7 +138,7 @@ pub extern "C" fn rbg_hear(alloc: Global, state: &mut Handle, pairs: &[ModifierP
 }
 
 /// Makes the move of these pairs, with no move of the keeper after it.
-fn hear(state: &mut State, pairs: &[ModifierPair]) -> Result<(), Refusal>
+fn hear(state: &mut State, pairs: &[ModifierPair]) -> Result<(), QuestionError>
     ensures heard { OnOk result (Hears state.old pairs.now state.new) }
     ensures refused { IfErr result
         (IsNoMove (IsUnfollowed state.old.game state.old.place pairs.now) pairs.now) }
@@ -146,7 +146,7 @@ fn hear(state: &mut State, pairs: &[ModifierPair]) -> Result<(), Refusal>
 {
     match move_of(pairs) {
         Some(found) => state.hear(&found),
-        None => Err(Refusal::Illegal),
+        None => Err(QuestionError::Illegal),
     }
 }
 

@@ -1,37 +1,39 @@
 //! Moves and matches by chance from a state.
-ghost use Rattle.std.specs.Prelude.{◌≡◌, ◌<◌, ◌+◌, ◌++◌, IfErr, IfOk, OnErr, OnOk, length, map};
+ghost use Rattle.std.specs.Prelude.{◌≡◌, ◌<◌, ◌++◌, ℕ, List, IfErr, IfOk, OnErr, OnOk, map};
 ghost use Rattle.std.specs.List.{flat_map};
 ghost use Rattle.rbg_questions.specs.Chance.{IsUnplayed, counted_by};
 ghost use Rattle.rbg_questions.specs.Limits.{IsCount};
-ghost use Rattle.rbg_c.specs.Playouts.{ArePlayed, GoesOn, IsNotPlayedOn, IsPlayedOn, IsStuck, PlaysOn, row_of};
+ghost use Rattle.rbg_c.specs.Listing.{numbers_of_move};
+ghost use Rattle.rbg_c.specs.Playouts.{ArePlayed, GoesOn, IsNotPlayedOn, IsStuck, TellsOn, copy_of, row_of};
+ghost use Rattle.rbg_c.specs.States.{IsFoundAt};
 
+use crate::listing::push_move;
 use crate::state::State;
 use rand_core::{Rng, SeedableRng};
 use rand_pcg::Pcg32;
 use rbg_base::Memory;
-use rbg_questions::{Ending, Refusal, Tally};
+use rbg_questions::{Draw, Ending, EndingTally, QuestionError};
 use std::alloc::Global;
 
 /// Plays so many matches by chance, and returns the rows of those that were finished.
 pub(crate) fn play_rows(
     alloc: Global,
     state: &mut State,
-    seed: u64,
-    count: u64,
-) -> Result<Vec<u64>, Refusal>
-    requires { IsCount count }
+    draw: Draw,
+) -> Result<Vec<u64>, QuestionError>
+    requires { IsCount draw.count }
     ensures played { IfOk result (λ rows.
-        ArePlayed state.old.game state.old.place count rows.items) }
+        ArePlayed state.old.game state.old.place draw.count rows.items) }
     ensures unplayed { IfErr result (IsUnplayed state.old.game state.old.place) }
     ensures kept { state.new ≡ state.old }
 {
-    let tallies = state.play_matches(seed, count)?;
+    let tallies = state.play_matches(draw)?;
     let rows = rows_of(alloc, tallies.as_slice())?;
     Ok(rows)
 }
 
 /// The rows of matches that were counted.
-fn rows_of(alloc: Global, tallies: &[Tally]) -> Result<Vec<u64>, Memory>
+fn rows_of(alloc: Global, tallies: &[EndingTally]) -> Result<Vec<u64>, Memory>
     ensures { IfOk result (λ rows.
         rows.items ≡ flat_map row_of (map counted_by tallies.now)) }
 {
@@ -43,7 +45,7 @@ fn rows_of(alloc: Global, tallies: &[Tally]) -> Result<Vec<u64>, Memory>
 }
 
 /// Appends the row of matches that ended alike.
-fn push_row(tally: &Tally, rows: &mut Vec<u64>) -> Result<(), Memory>
+fn push_row(tally: &EndingTally, rows: &mut Vec<u64>) -> Result<(), Memory>
     ensures { OnOk result (rows.new.items ≡ rows.old.items ++ row_of (counted_by tally.now)) }
 {
     match &tally.ending {
@@ -56,46 +58,70 @@ fn push_row(tally: &Tally, rows: &mut Vec<u64>) -> Result<(), Memory>
     }
 }
 
-/// A copy of a state on which moves are made by chance, at most so many, until play is finished.
-pub(crate) fn played_on(state: &State, seed: u64, most: u64) -> Result<State, Refusal>
-    ensures played { IfOk result (IsPlayedOn state.now most) }
+/// A copy of a state on which moves are made by chance, at most so many, until play is finished. Their numbers are appended,
+/// as `rbg_moves` has them.
+pub(crate) fn played_on(
+    state: &State,
+    draw: Draw,
+    numbers: &mut Vec<u32>,
+) -> Result<State, QuestionError>
+    ensures played { IfOk result (λ played.
+        TellsOn (copy_of state.now) draw.count played numbers.old.items numbers.new.items) }
     ensures stuck { IfErr result (IsNotPlayedOn state.now) }
 {
     let mut copy = state.try_clone()?;
-    let _made = play_on(&mut copy, seed, most)?;
+    play_on(&mut copy, draw, numbers)?;
     Ok(copy)
 }
 
-/// Makes moves by chance, at most so many, until play is finished. Returns how many.
-fn play_on(state: &mut State, seed: u64, most: u64) -> Result<u64, Refusal>
-    ensures plays { IfOk result (λ made.
-        PlaysOn state.old.game state.old.place most made state.new.place) }
-    ensures before { IfOk result (λ made.
-        length state.new.before ≡ length state.old.before + made) }
-    ensures game { OnOk result (state.new.game ≡ state.old.game) }
-    ensures origin { OnOk result (state.new.origin ≡ state.old.origin) }
+/// Makes moves by chance, at most so many, until play is finished, and appends their numbers.
+fn play_on(state: &mut State, draw: Draw, numbers: &mut Vec<u32>) -> Result<(), QuestionError>
+    ensures plays { OnOk result
+        (TellsOn state.old draw.count state.new numbers.old.items numbers.new.items) }
     ensures stuck { IfErr result (IsNotPlayedOn state.old) }
 {
-    let mut chance = Pcg32::seed_from_u64(seed);
-    for made in 0..most {
-        if !make_one(state, &mut chance)? {
-            return Ok(made);
+    let mut chance = Pcg32::seed_from_u64(draw.seed);
+    for _ in 0..draw.count {
+        if !make_one(state, &mut chance, numbers)? {
+            return Ok(());
         }
     }
-    Ok(most)
+    Ok(())
 }
 
-/// Makes a move by chance. False where there is no legal one.
-fn make_one(state: &mut State, chance: &mut Pcg32) -> Result<bool, Refusal>
-    ensures goes { IfOk result (λ moved. GoesOn state.old moved state.new) }
+/// Makes a move by chance, and appends its numbers. False where there is no legal one.
+fn make_one(
+    state: &mut State,
+    chance: &mut Pcg32,
+    numbers: &mut Vec<u32>,
+) -> Result<bool, QuestionError>
+    ensures goes { IfOk result (λ moved.
+        GoesOn state.old moved state.new numbers.old.items numbers.new.items) }
     ensures stuck { IfErr result (IsStuck state.old.game state.old.place) }
 {
     let count = state.find_moves()?;
     if count == 0 {
         return Ok(false);
     }
-    state.make_found(choose(count, chance))?;
+    let index = choose(count, chance);
+    push_found(state, index, numbers)?;
+    state.make_found(index)?;
     Ok(true)
+}
+
+/// Appends the numbers of the move that stands at an index among those that were found.
+fn push_found(state: &State, index: usize, numbers: &mut Vec<u32>) -> Result<(), Memory>
+    ensures { OnOk result ((pairs : List (ℕ × ℕ))
+        → IsFoundAt state.now index pairs
+        → numbers.new.items ≡ numbers.old.items ++ numbers_of_move pairs) }
+{
+    let Some(moves) = state.moves() else {
+        return Ok(());
+    };
+    if moves.len() <= index {
+        return Ok(());
+    }
+    push_move(moves.get(index), numbers)
 }
 
 /// A number below another one, by chance.

@@ -3,7 +3,7 @@ ghost use Rattle.std.specs.Prelude.{◌≡◌, ◌≢◌};
 ghost use Rattle.rbg_c.specs.Results.{layer_of, number_of};
 
 use rbg_game::LoadError;
-use rbg_questions::Refusal;
+use rbg_questions::QuestionError;
 
 pub(crate) const OK: u32 = 0;
 
@@ -34,22 +34,22 @@ const SYNTAX: u32 = 18;
 const GAME: u32 = 19;
 
 /// The number of a refusal.
-pub(crate) fn number(refusal: Refusal) -> u32
+pub(crate) fn number(refusal: QuestionError) -> u32
     ensures number { result ≡ number_of refusal }
     ensures some { result ≢ 0 }
 {
     match refusal {
-        Refusal::Long => RANGE,
-        Refusal::Empty => RANGE,
-        Refusal::Return => RANGE,
-        Refusal::Word => RANGE,
-        Refusal::Form => RANGE,
-        Refusal::Illegal => ILLEGAL,
-        Refusal::Start => START,
-        Refusal::NoPlace => NO_PLACE,
-        Refusal::Over => OVER,
-        Refusal::Keeper => KEEPER,
-        Refusal::Memory => MEMORY,
+        QuestionError::Long => RANGE,
+        QuestionError::Empty => RANGE,
+        QuestionError::Return => RANGE,
+        QuestionError::Word => RANGE,
+        QuestionError::Form => RANGE,
+        QuestionError::Illegal => ILLEGAL,
+        QuestionError::Start => START,
+        QuestionError::NoPlace => NO_PLACE,
+        QuestionError::Over => OVER,
+        QuestionError::Keeper => KEEPER,
+        QuestionError::Memory => MEMORY,
     }
 }
 

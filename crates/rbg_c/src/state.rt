@@ -3,7 +3,7 @@ ghost use Rattle.std.specs.Prelude.{◌≡◌, ◌≢◌, ◌<◌, ◌^◌, [], 
 ghost use Rattle.std.specs.Option.{MatchOption};
 ghost use Rattle.rbg_rules.specs.Meaning.{AbstractPlace, IsGame, IsPlaceOf, most_players};
 ghost use Rattle.rbg_moves.specs.Settling.{IsEndless, MeetsHeavy, Settles};
-ghost use Rattle.rbg_questions.specs.declared.refusal.Refusal.TheVariants.{Keeper, Over};
+ghost use Rattle.rbg_questions.specs.declared.question_error.QuestionError.TheVariants.{Keeper, Over};
 ghost use Rattle.rbg_questions.specs.Chance.{AreTallied, IsUnplayed, counted_by};
 ghost use Rattle.rbg_questions.specs.Keys.{key_of};
 ghost use Rattle.rbg_questions.specs.Limits.{IsCount};
@@ -13,12 +13,13 @@ ghost use Rattle.rbg_questions.specs.internal.Places.{IsUnfollowed, IsUnlisted, 
 ghost use Rattle.rbg_c.specs.States.{AreMoves, FindsMoves, Hears, Makes, MakesFound, Undoes, Unpacks, beginning_at};
 ghost use Rattle.rbg_c.specs.Stepping.{IsUnmadeAt};
 
-use crate::keys::key_at;
-use crate::stepping::{first_place, follow, lead, moves_at, step};
 use arrayvec::ArrayVec;
 use rbg_base::{Memory, Move, MoveList, Piece, Player, Variable};
 use rbg_moves::{Place, PlayedGame, Workspace};
-use rbg_questions::{Refusal, Tally, pack, play_matches, unpack};
+use rbg_questions::{
+    Draw, EndingTally, QuestionError, first_place, follow, key_of, lead, moves_at, pack,
+    play_matches, step, unpack,
+};
 use rbg_rules::Game;
 use rbg_rules::limits::MAX_PLAYERS;
 use std::alloc::Global;
@@ -100,7 +101,7 @@ fn hand_on(found: &mut Option<MoveList>, workspace: &mut Workspace) {
 
 impl State {
     /// The state to which the keeper's first moves lead.
-    pub fn open(alloc: Global, game: Game) -> Result<State, Refusal>
+    pub fn open(alloc: Global, game: Game) -> Result<State, QuestionError>
         ensures game { IfOk result (λ state.
             state ≡ beginning_at game (beginning_of game) state.place) }
         ensures place { IfOk result (λ state. Settles game (beginning_of game) state.place) }
@@ -256,11 +257,11 @@ impl State {
     pub fn key(&self) -> u64
         ensures { result ≡ key_of self.now.place }
     {
-        key_at(self.game.deref(), &self.place)
+        key_of(self.game(), &self.place)
     }
 
     /// Finds the legal moves, and tells how many they are. Play is finished where there is none.
-    pub fn find_moves(&mut self) -> Result<usize, Refusal>
+    pub fn find_moves(&mut self) -> Result<usize, QuestionError>
         ensures found { IfOk result (λ count. FindsMoves self.old count self.new) }
         ensures unlisted { IfErr result (IsUnlisted self.old.game self.old.place) }
         ensures kept { OnErr result (self.new ≡ self.old) }
@@ -292,16 +293,16 @@ impl State {
     }
 
     /// Makes the move that stands at an index among those that were found, and the keeper's moves after it.
-    pub fn make_found(&mut self, index: usize) -> Result<(), Refusal>
+    pub fn make_found(&mut self, index: usize) -> Result<(), QuestionError>
         ensures made { OnOk result (MakesFound self.old index self.new) }
         ensures refused { IfErr result (IsUnmadeAt self.old index) }
         ensures kept { OnErr result (self.new ≡ self.old) }
     {
         let Some(moves) = &self.found else {
-            return Err(Refusal::Illegal);
+            return Err(QuestionError::Illegal);
         };
         if moves.len() <= index {
-            return Err(Refusal::Illegal);
+            return Err(QuestionError::Illegal);
         }
         let to = step(
             self.game.deref(),
@@ -317,7 +318,7 @@ impl State {
     }
 
     /// Makes the move of these pairs, if it is legal, and the keeper's moves after it.
-    pub fn make(&mut self, pairs: &Move) -> Result<(), Refusal>
+    pub fn make(&mut self, pairs: &Move) -> Result<(), QuestionError>
         ensures made { OnOk result (Makes self.old pairs.now self.new) }
         ensures refused { IfErr result (IsUnmade self.old.game self.old.place pairs.now) }
         ensures kept { OnErr result (self.new ≡ self.old) }
@@ -332,7 +333,7 @@ impl State {
 
     /// Makes the move of these pairs, if it is legal, as a referee passes it on: the keeper's moves are passed on too, so
     /// none is made after it. None of the moves so far can be undone then.
-    pub fn hear(&mut self, pairs: &Move) -> Result<(), Refusal>
+    pub fn hear(&mut self, pairs: &Move) -> Result<(), QuestionError>
         ensures heard { OnOk result (Hears self.old pairs.now self.new) }
         ensures refused { IfErr result (IsUnfollowed self.old.game self.old.place pairs.now) }
         ensures kept { OnErr result (self.new ≡ self.old) }
@@ -363,10 +364,10 @@ impl State {
     }
 
     /// Plays so many matches by chance from here, and counts how they end. A seed always gives the same matches.
-    pub fn play_matches(&mut self, seed: u64, count: u64) -> Result<Vec<Tally>, Refusal>
-        requires { IsCount count }
+    pub fn play_matches(&mut self, draw: Draw) -> Result<Vec<EndingTally>, QuestionError>
+        requires { IsCount draw.count }
         ensures tallied { IfOk result (λ tallies.
-            AreTallied self.old.game self.old.place count (map counted_by tallies.items)) }
+            AreTallied self.old.game self.old.place draw.count (map counted_by tallies.items)) }
         ensures unplayed { IfErr result (IsUnplayed self.old.game self.old.place) }
         ensures kept { self.new ≡ self.old }
     {
@@ -374,8 +375,7 @@ impl State {
             self.alloc,
             self.game.deref(),
             &self.place,
-            seed,
-            count,
+            draw,
             &mut self.workspace,
         )
     }

@@ -1,6 +1,6 @@
 //! The line that has how many of each thing a game has.
 ghost use Rattle.std.specs.Prelude.{◌≡◌, IfOk, string_bytes};
-ghost use Rattle.rbg_console.specs.Counts.{counts, counts_of};
+ghost use Rattle.rbg_console.specs.Counts.{counts_of};
 
 use rbg_game::Game;
 use std::alloc::{AllocError, Global};
@@ -10,31 +10,13 @@ use std::alloc::{AllocError, Global};
 pub fn count_line(alloc: Global, game: &Game) -> Result<String, AllocError>
     ensures { IfOk result (λ line. string_bytes line ≡ counts_of game.now) }
 {
-    write_counts(
-        alloc,
-        game.players(),
-        game.pieces(),
-        game.variables(),
-        game.directions(),
-        game.board().len(),
-        game.positions(),
-    )
-}
-
-fn write_counts(
-    alloc: Global,
-    players: usize,
-    pieces: usize,
-    variables: usize,
-    directions: usize,
-    vertices: usize,
-    positions: usize,
-) -> Result<String, AllocError>
-    ensures { IfOk result (λ line.
-        string_bytes line ≡ counts players pieces variables directions vertices positions) }
-{
+    let players = game.players();
+    let pieces = game.pieces();
+    let variables = game.variables();
+    let directions = game.directions();
+    let vertices = game.board().len();
+    let positions = game.positions();
     format!(in alloc;
-        "players {} pieces {} variables {} directions {} vertices {} positions {}",
-        players, pieces, variables, directions, vertices, positions
+        "players {players} pieces {pieces} variables {variables} directions {directions} vertices {vertices} positions {positions}"
     )
 }

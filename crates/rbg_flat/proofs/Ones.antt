@@ -1,9 +1,9 @@
 -- The bits of a word, as a list: it has as many as are set.
-use Rattle.rbg_base.proofs.Common.{◌≡◌, ℕ, zero, suc, ◌+◌, ◌*◌, ◌/◌, ◌%◌, ◌^◌, ◌<◌, ◌⊎◌, inl, inr, List, [], ◌∷◌, length, map, refl, sym, ap, subst, ◌∙◌, arith, add-one, count_ones, bit_at, length-map, ones_le_self, bit_at_lowest, bit_at-suc}
+use Rattle.rbg_base.proofs.Common.{◌≡◌, ◌≢◌, ℕ, zero, suc, ◌+◌, ◌*◌, ◌/◌, ◌%◌, ◌^◌, ◌<◌, ◌≤◌, ◌⊎◌, inl, inr, List, [], ◌∷◌, ◌++◌, length, length-append, ℕ_discrete, map, refl, sym, ap, subst, ◌∙◌, arith, add-one, count_ones, bit_at, length-map, ones_le_self, bit_at_lowest, bit_at-suc}
 use Rattle.std.specs.Int.Count.{ones_step}
 use Rattle.std.proofs.Math.Nat.{pow-suc}
 use Rattle.rbg_flat.proofs.Common.{with_first, next, bits, Lists, IsBitOf}
-use Rattle.rbg_flat.proofs.Lists.{lists_none, lists_same, lists_push, lists_join, lists_map}
+use Rattle.rbg_flat.proofs.Lists.{lists_none, lists_same, lists_push, lists_count, lists_join, lists_map}
 
 abbrev pub IsBit : (k n b : ℕ) → Type 0
 IsBit k n b = (b < k) × (bit_at n b ≡ 1)
@@ -108,3 +108,46 @@ counted c word fits = record {
   lists = word_lists c word;
   count = sym (length-map (bits 64 word) (place c) ∙ bits_count 64 word fits);
 }
+
+-- A word has one bit more than what is left of it without one of its bits.
+pub one_less : (word rest bit : ℕ) → word < 2 ^ 64 → rest < 2 ^ 64 → bit < 64 → bit_at word bit ≡ 1 → bit_at rest bit ≡ 0 → ((b : ℕ) → b ≢ bit → bit_at rest b ≡ bit_at word b) → count_ones word ≡ count_ones rest + 1
+one_less word rest bit fits fits_rest small set gone others =
+    let all = bits_count 64 word fits in
+    let left = bits_count 64 rest fits_rest in
+    let joined = lists_count (IsBit 64 word) (bits 64 word) (bits 64 rest ++ bit ∷ []) (bits_list 64 word) pushed in
+    let long = length-append (bits 64 rest) (bit ∷ []) in
+    omega (arith, all, left, joined, long)
+  where
+    not_both : {n : ℕ} → n ≡ 0 → n ≡ 1 → ⊥
+    not_both none one = omega (arith, none, one)
+
+    case_of : (b : ℕ) → IsBit 64 word b → IsBit 64 rest b ⊎ (b ≡ bit)
+    case_of b is = elim (ℕ_discrete b bit) [
+      | yes same ↦ inr same
+      | no other ↦ inl (is.0, others b other ∙ is.1)
+    ]
+
+    still : (b : ℕ) → IsBit 64 rest b → IsBit 64 word b
+    still b is = elim (ℕ_discrete b bit) [
+      | yes same ↦ absurd (not_both gone (subst (λ (k : ℕ). bit_at rest k ≡ 1) same is.1))
+      | no other ↦ (is.0, sym (others b other) ∙ is.1)
+    ]
+
+    pushed : Lists (IsBit 64 word) (bits 64 rest ++ bit ∷ [])
+    pushed = lists_push (IsBit 64 rest) (IsBit 64 word) (bits 64 rest) bit (bits_list 64 rest) (λ is. not_both gone is.1) case_of still (small, set)
+
+bits_few : (k n : ℕ) → length (bits k n) ≤ k
+unfolding bits
+bits_few zero n = omega arith
+bits_few (suc k) n =
+    let long = first_length (n % 2) (map next (bits k (n / 2))) (omega arith) in
+    let same = length-map (bits k (n / 2)) next in
+    let rest = bits_few k (n / 2) in
+    omega (arith, long, same, rest)
+
+-- A word of 64 bits has no more.
+pub few_ones : (word : ℕ) → word < 2 ^ 64 → count_ones word ≤ 64
+few_ones word fits =
+    let all = bits_count 64 word fits in
+    let few = bits_few 64 word in
+    omega (arith, all, few)

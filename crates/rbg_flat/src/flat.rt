@@ -48,6 +48,15 @@ pub struct NotGathered {
     pub many: usize,
 }
 
+/// The vertices of one column that were asked about a pattern, as bits of a word.
+#[derive(Clone, Copy, Drop)]
+pub struct AskedWord {
+    /// Those that were asked.
+    pub asked: u64,
+    /// Those of them at which the pattern is valid.
+    pub held: u64,
+}
+
 impl Flat {
     /// A flat part of a game, not begun.
     #[inline(never)]
@@ -157,6 +166,73 @@ impl Flat {
         let held = if valid { word } else { 0 };
         let place = self.sets.place(position, column);
         self.take_word(&setting, place, position, column, word, held);
+    }
+
+    /// The vertices that are open at a position, in the column of a vertex.
+    #[inline(always)]
+    pub fn open_word(&self, game: &Game, vertex: Vertex, position: Position) -> u64
+        requires lawful { IsGame game.now }
+        requires sized { AreSizedFor game.now self.now.sets }
+        requires vertex { vertex < length game.now.board.first }
+        requires there { position ≤ length (positions_of game.now.rules) }
+        ensures open { (b : ℕ) → bit_at result b ≡ 1
+            → IsOpen self.now.sets (vertex / 64 * 64 + b) position }
+        ensures marked { (b : ℕ) → bit_at result b ≡ 1
+            → (b < 64) × IsMarked self.now.sets (vertex / 64 * 64 + b) position }
+    {
+        // The game is lawful.
+        game.is_accepted();
+        let column = vertex as usize / 64;
+        let place = self.sets.place(position, column);
+        self.sets.open_at(place, position, column)
+    }
+
+    /// As `take`, with all vertices that were asked in the column of the one that `advance` returned.
+    #[inline(always)]
+    pub fn take_all(
+        &mut self,
+        game: &Game,
+        paths: &Paths,
+        state: &SemiState,
+        vertex: Vertex,
+        position: Position,
+        word: AskedWord,
+    )
+        requires lawful { IsGame game.now }
+        requires paths { ArePathsOf game.now paths.now }
+        requires fits { IsStateOf game.now state.now.state }
+        requires sized { AreSizedFor game.now self.old.sets }
+        requires vertex { vertex < length game.now.board.first }
+        requires from_one { 0 < position }
+        requires there { position ≤ length (positions_of game.now.rules) }
+        requires board { IsOnBoard game.now (vertex / 64) word.asked }
+        requires marked { (b : ℕ) → bit_at word.asked b ≡ 1
+            → (b < 64) × IsMarked self.old.sets (vertex / 64 * 64 + b) position }
+        requires within { (b : ℕ) → bit_at word.held b ≡ 1 → bit_at word.asked b ≡ 1 }
+        requires last { WaitsLast self.old.sets vertex position }
+        ensures sized { AreSizedFor game.now self.new.sets }
+        ensures on { AreOn game.now self.old.sets → AreOn game.now self.new.sets }
+        ensures begun { (f : Start)
+            → ((b : ℕ) → b < 64 → bit_at word.asked b ≡ 1 → (bit_at word.held b ≡ 1)
+            ↔ Holds game.now state.now.state (vertex / 64 * 64 + b) position)
+            → IsBegun (way_of paths.now) game.now state.now.state f (IsMarked self.old.sets) (IsOpen self.old.sets)
+            self.old.ends
+            → IsBegun (way_of paths.now) game.now state.now.state f (IsMarked self.new.sets) (IsOpen self.new.sets)
+            self.new.ends }
+        ensures still_done { KeepsDone self.old.sets self.new.sets }
+        ensures done { (v : ℕ) → IsInWord position (vertex / 64) word.asked v position
+            → IsDone self.new.sets v position }
+        ensures quiet { (v p : ℕ) → IsPatternAt game.now.rules p
+            → ¬ IsInWord position (vertex / 64) word.asked v p → IsDone self.new.sets v p
+            → IsDone self.old.sets v p }
+        ensures less { (v : ℕ) → IsOpen self.old.sets v position
+            → IsInWord position (vertex / 64) word.asked v position
+            → weight self.new.sets < weight self.old.sets }
+    {
+        let setting = Setting { game, paths, state };
+        let column = vertex as usize / 64;
+        let place = self.sets.place(position, column);
+        self.take_word(&setting, place, position, column, word.asked, word.held);
     }
 
     /// Whether a word may end with no modifier more, once nothing is left to be looked at.

@@ -8,6 +8,7 @@ ghost use Rattle.rbg_flat.specs.internal.Gathering.{Gathers, Keeps};
 use crate::found::Modifiers;
 use crate::paths::{Kind, Paths};
 use crate::sets::Sets;
+use crate::words::{lowest, without};
 use rbg_base::{Memory, Position};
 use rbg_rules::Game;
 use rbg_state::{SemiState, Trial};
@@ -55,13 +56,21 @@ fn is_kept(game: &Game, state: &SemiState, position: Position) -> bool
     }
 }
 
-/// How many bits of a word are set.
+/// How many bits of a word are set. Most words have one, which is seen in less than it takes to count.
 #[inline(always)]
 fn count(word: u64) -> usize
     ensures ones { result ≡ count_ones word }
     ensures few { result ≤ 64 }
 {
-    word.count_ones() as usize
+    if word == 0 {
+        return 0;
+    }
+    let rest = without(word, lowest(word));
+    if rest == 0 {
+        1
+    } else {
+        1 + rest.count_ones() as usize
+    }
 }
 
 /// Counts the vertices that were met at a place, and puts them after what was found where they are kept.

@@ -18,7 +18,8 @@ mod walk;
 mod words;
 
 pub use ending::DeadEnd;
-pub use flat::{Flat, NotGathered};
+pub use flat::{AskedWord, Flat, NotGathered};
 pub use found::Modifiers;
 pub use onward::Onward;
 pub use paths::{Paths, is_shift};
+pub use words::{lowest, with, without};

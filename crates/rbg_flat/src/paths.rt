@@ -185,7 +185,7 @@ impl Paths {
 
     /// Whether to look for a dead end in the pattern at a position.
     #[inline(always)]
-    pub(crate) fn is_narrow(&self, position: Position) -> bool {
+    pub fn is_narrow(&self, position: Position) -> bool {
         flag_at(&self.narrow, position)
     }
 

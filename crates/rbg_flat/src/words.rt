@@ -1,10 +1,10 @@
 //! Words of bits.
-ghost use Rattle.std.specs.Prelude.{◌≡◌, ◌≢◌, ℕ, ◌<◌, ◌≤◌};
+ghost use Rattle.std.specs.Prelude.{◌≡◌, ◌≢◌, ℕ, ◌<◌, ◌≤◌, ◌⊎◌};
 ghost use Rattle.std.specs.Int.{bit_at, trailing_zeros, w64};
 
 /// The place of the lowest bit of a word.
 #[inline(always)]
-pub(crate) fn lowest(word: u64) -> u32
+pub fn lowest(word: u64) -> u32
     requires { 0 < word }
     ensures is { result ≡ trailing_zeros w64 word }
     ensures set { bit_at word result ≡ 1 }
@@ -28,7 +28,7 @@ pub(crate) fn unit_word(bit: u32) -> u64
 
 /// A word without one of its bits.
 #[inline(always)]
-pub(crate) fn without(word: u64, bit: u32) -> u64
+pub fn without(word: u64, bit: u32) -> u64
     requires { bit < 64 }
     ensures gone { bit_at result bit ≡ 0 }
     ensures only { (b : ℕ) → bit_at result b ≡ 1 → bit_at word b ≡ 1 }
@@ -38,6 +38,17 @@ pub(crate) fn without(word: u64, bit: u32) -> u64
     let mut rest = word;
     rest &= !(1 << bit);
     rest
+}
+
+/// A word with one more bit.
+#[inline(always)]
+pub fn with(word: u64, bit: u32) -> u64
+    requires { bit < 64 }
+    ensures set { bit_at result bit ≡ 1 }
+    ensures kept { (b : ℕ) → bit_at word b ≡ 1 → bit_at result b ≡ 1 }
+    ensures only { (b : ℕ) → bit_at result b ≡ 1 → (bit_at word b ≡ 1) ⊎ (b ≡ bit) }
+{
+    word | unit_word(bit)
 }
 
 /// The word with all bits.

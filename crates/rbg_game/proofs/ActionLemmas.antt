@@ -15,7 +15,7 @@ use Rattle.rbg_rules.specs.declared.rule.Action.{Action}
 use Rattle.rbg_rules.specs.declared.rule.Action.TheVariants.{Shift, On, Off, Assign, Compare, Switch, Positive, Negative}
 use Rattle.rbg_rules.specs.declared.rule.Rule.TheVariants.{Act}
 use Rattle.rbg_rules.proofs.TreeLemmas.{act_is, within_Act}
-use Rattle.rbg_game.proofs.NumberingCommon.{NumberingError, SwitchInPattern, Names, IsNumberOf, ArithmeticIs, ActionIs, shifts, stands_on, puts, assigns, gives_turn, HasArithmeticFault, assigned, left_side, right_side, this, actions_of, IsLawful, AddsRule, HasFaultFrom, from_use, from_arithmetic, from_switch, from_memory}
+use Rattle.rbg_game.proofs.NumberingCommon.{GameError, SwitchInPattern, Names, IsNumberOf, ArithmeticIs, ActionIs, shifts, stands_on, puts, assigns, gives_turn, HasArithmeticFault, assigned, left_side, right_side, this, actions_of, IsLawful, AddsRule, HasFaultFrom, from_use, from_arithmetic, from_switch, from_memory}
 use Rattle.rbg_game.specs.NameTables.{HasLookUpFault, not_there, no_memory as look_up_memory}
 use Rattle.rbg_game.specs.internal.Actions.{is_spelt_pattern, IsPlayer, player_names, HasActionFault, of_use, of_expression, of_switch, no_memory, IsActionHere}
 use Rattle.rbg_game.proofs.Lists.{slice_get-last}
@@ -40,7 +40,7 @@ is_switch : (a : ParsedAction) (at : ℕ) (player : Option Name) → a ≡ actio
 is_switch a at player is = ap spelt_action_of is ∙ action_of-Switch at player
 
 -- A name that isn't found, or an expression with a fault, is the action's fault.
-module _ (names : Names) (left : ℕ) (a : ParsedAction) (error : NumberingError) where
+module _ (names : Names) (left : ℕ) (a : ParsedAction) (error : GameError) where
   pub shift_fault : (n : Name) → a ≡ actions.Shift n → HasLookUpFault names.directions (name_of n ∷ []) error → HasActionFault names left (spelt_action_of a) error
   shift_fault n is h = subst (λ s. HasActionFault names left s error) (sym (is_shift a n is)) (of_use shifts h)
 
@@ -62,12 +62,12 @@ module _ (names : Names) (left : ℕ) (a : ParsedAction) (error : NumberingError
   pub right_fault : (e : SyntaxExpression) (r : Relation) (f : SyntaxExpression) → a ≡ actions.Compare e r f → HasArithmeticFault names (spelt_expression_of f) error → HasActionFault names left (spelt_action_of a) error
   right_fault e r f is h = subst (λ s. HasActionFault names left s error) (sym (is_compare a e r f is)) (of_expression right_side h)
 
-player_fault : (names : Names) (left at : ℕ) (player : Option SpeltName) (e : NumberingError) → HasLookUpFault names.players (player_names player) e → HasActionFault names left (SpeltAction.switch at player) e
+player_fault : (names : Names) (left at : ℕ) (player : Option SpeltName) (e : GameError) → HasLookUpFault names.players (player_names player) e → HasActionFault names left (SpeltAction.switch at player) e
 player_fault names left at None _ (not_there h) = absurd (let within = h.stands.1 in omega arith)
 player_fault names left at None _ look_up_memory = no_memory
 player_fault names left at (Some n) e h = of_use gives_turn h
 
-pub switch_fault : (names : Names) (left : ℕ) (a : ParsedAction) (e : NumberingError) (at : ℕ) (player : Option Name) → a ≡ actions.Switch at player → HasLookUpFault names.players (player_names (option_map name_of player)) e → HasActionFault names left (spelt_action_of a) e
+pub switch_fault : (names : Names) (left : ℕ) (a : ParsedAction) (e : GameError) (at : ℕ) (player : Option Name) → a ≡ actions.Switch at player → HasLookUpFault names.players (player_names (option_map name_of player)) e → HasActionFault names left (spelt_action_of a) e
 switch_fault names left a e at player is h = subst (λ (s : SpeltAction). HasActionFault names left s e) (sym (is_switch a at player is)) (player_fault names left at (option_map name_of player) e h)
 
 pub switch_inside : (names : Names) (left : ℕ) (a : ParsedAction) (at : ℕ) (player : Option Name) → a ≡ actions.Switch at player → left < most_nested_patterns → HasActionFault names left (spelt_action_of a) (SwitchInPattern at)
@@ -119,7 +119,7 @@ nothing_inside Positive plain = cc
 nothing_inside Negative plain = cc
 nothing_inside _ plain = refl
 
-pub action_fault : (names : Names) (left before : ℕ) (s : SpeltAction) (e : NumberingError) → HasActionFault names left s e → HasFaultFrom names left before (SpeltRule.act s) e
+pub action_fault : (names : Names) (left before : ℕ) (s : SpeltAction) (e : GameError) → HasActionFault names left s e → HasFaultFrom names left before (SpeltRule.act s) e
 action_fault names left before s _ (of_use uses (not_there h)) = from_use this uses h
 action_fault names left before s _ (of_use uses look_up_memory) = from_memory
 action_fault names left before s e (of_expression has h) = from_arithmetic this has h

@@ -14,14 +14,14 @@ use Rattle.rbg_rules.specs.declared.arithmetic.Arithmetic.{Arithmetic}
 use Rattle.rbg_rules.specs.declared.arithmetic.Arithmetic.TheVariants as arithmetics
 use Rattle.rbg_rules.specs.declared.arithmetic.Operation.{Operation}
 use Rattle.rbg_rules.proofs.Bridge.{arithmetic_of-Negated, arithmetic_of-Chain, operation_of_roll}
-use Rattle.rbg_game.proofs.NumberingCommon.{NumberingError, NumberTooGreat, Names, ArithmeticIs, ChainIs, HasPart, itself, in_negated, in_chain, SomeOperandHasPart, earlier_operand, last_operand, HasArithmeticFault, unknown_value, great_number, arithmetic_memory, HasLookUpFault, not_there, no_memory, Combines}
+use Rattle.rbg_game.proofs.NumberingCommon.{GameError, Bound, Names, ArithmeticIs, ChainIs, HasPart, itself, in_negated, in_chain, SomeOperandHasPart, earlier_operand, last_operand, HasArithmeticFault, unknown_value, great_number, arithmetic_memory, HasLookUpFault, not_there, no_memory, Combines}
 use Rattle.rbg_base.proofs.CallerLemmas.{map-take_more}
 use Rattle.rbg_game.proofs.Lists.{Contains-one}
 
 -- Faults.
 
 -- What is wrong with a part is wrong with the expression.
-pub fault_of_part : (names : Names) (e part : SpeltExpression) (error : NumberingError) → ((f : SpeltExpression) → HasPart part f → HasPart e f) → HasArithmeticFault names part error → HasArithmeticFault names e error
+pub fault_of_part : (names : Names) (e part : SpeltExpression) (error : GameError) → ((f : SpeltExpression) → HasPart part f → HasPart e f) → HasArithmeticFault names part error → HasArithmeticFault names e error
 fault_of_part names e part _ within (unknown_value h) = unknown_value (record { name = h.name; stands = within _ h.stands; no_variable = h.no_variable; no_piece = h.no_piece; place = h.place })
 fault_of_part names e part _ within (great_number h) = great_number (record { number = h.number; stands = within _ h.stands; too_great = h.too_great; place = h.place })
 fault_of_part names e part _ within arithmetic_memory = arithmetic_memory
@@ -36,7 +36,7 @@ part_stands first (t ∷ ts) zero d part below h = part_after (more_operands fir
 part_stands first (t ∷ ts) (suc k) d part below h = part_stands (more_operands first t.0 t.1) ts k d part (omega arith) h
 
 -- The fault of an operand is one of the chain.
-pub fault_of_operand : (names : Names) (operands : List Operand) (k : ℕ) (t d : Operand) (error : NumberingError) → k < length operands → t ≡ get_or operands k d → HasArithmeticFault names (expression_of t.value) error → HasArithmeticFault names (SpeltExpression.chain (operands_after no_operands (map operand_of operands))) error
+pub fault_of_operand : (names : Names) (operands : List Operand) (k : ℕ) (t d : Operand) (error : GameError) → k < length operands → t ≡ get_or operands k d → HasArithmeticFault names (expression_of t.value) error → HasArithmeticFault names (SpeltExpression.chain (operands_after no_operands (map operand_of operands))) error
 fault_of_operand names operands k t d error below is fault =
     let same : get_or (map operand_of operands) k (operand_of t) ≡ operand_of t = get_or-map operand_of operands k d (operand_of t) below ∙ ap operand_of (sym is) in
     fault_of_part names (SpeltExpression.chain (operands_after no_operands (map operand_of operands))) (expression_of t.value) error
@@ -45,11 +45,11 @@ fault_of_operand names operands k t d error below is fault =
 
 -- Numbers and names.
 
-pub too_great_alone : (names : Names) (n : SpeltNumber) → ((value : ℕ) → n.value ≡ Some value → 2 ^ 63 ≤ value) → HasArithmeticFault names (SpeltExpression.number n) (NumberTooGreat n.at)
+pub too_great_alone : (names : Names) (n : SpeltNumber) → ((value : ℕ) → n.value ≡ Some value → 2 ^ 63 ≤ value) → HasArithmeticFault names (SpeltExpression.number n) (Bound n.at)
 too_great_alone names n great = great_number (record { number = n; stands = itself; too_great = great; place = refl })
 
 -- A name that is no variable and isn't found among the pieces.
-pub unknown_alone : (names : Names) (n : SpeltName) (error : NumberingError) → ¬ Contains names.variables n.text → HasLookUpFault names.pieces (n ∷ []) error → HasArithmeticFault names (SpeltExpression.name n) error
+pub unknown_alone : (names : Names) (n : SpeltName) (error : GameError) → ¬ Contains names.variables n.text → HasLookUpFault names.pieces (n ∷ []) error → HasArithmeticFault names (SpeltExpression.name n) error
 unknown_alone names n _ no_variable (not_there h) =
     let same : n ≡ h.name = Contains-one n h.name h.stands in
     unknown_value (record {
@@ -126,7 +126,7 @@ module _ (e f : Expression) (b : Box Expression Global) (is : e ≡ expressions.
   pub negated_formed : is_formed_expression (expression_of e) ≡ true → is_formed_expression (expression_of f) ≡ true
   negated_formed formed = sym (ap is_formed_expression negated_is) ∙ formed
 
-  pub fault_of_negated : (names : Names) (error : NumberingError) → HasArithmeticFault names (expression_of f) error → HasArithmeticFault names (expression_of e) error
+  pub fault_of_negated : (names : Names) (error : GameError) → HasArithmeticFault names (expression_of f) error → HasArithmeticFault names (expression_of e) error
   fault_of_negated names error h = fault_of_part names (expression_of e) (expression_of f) error (λ part has. subst (λ g. HasPart g part) (sym negated_is) (in_negated has)) h
 
   pub negated_made : (names : Names) (a : Arithmetic) (box : Box Arithmetic Global) → box.value ≡ a → ArithmeticIs names (expression_of f) (arithmetic_of a) → ArithmeticIs names (expression_of e) (arithmetic_of (arithmetics.Negated box))

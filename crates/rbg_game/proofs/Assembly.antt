@@ -5,8 +5,7 @@ use Rattle.std.proofs.lemmas.Slice.Zip.{AllZip-long}
 use Rattle.rbg_grammar.proofs.Common.{IsWhole, SpeltBounded, SpeltBoard, rectangle, hexagon, graph, SpeltName, SpeltDescription}
 use Rattle.rbg_rules.specs.Meaning.{Expression, IsGame, IsWithinLimits, max_bound}
 use Rattle.rbg_game.specs.declared.checking.boards.NamedBoard.{NamedBoard}
-use Rattle.rbg_game.proofs.Common.{Things, GameError, game_error_of, HasBoardFault, board_directions, names_spelt, HasFault, in_board, in_rules, MakesBoard, AreThingsOf, game_by_numbers}
-use Rattle.rbg_game.specs.declared.numbering_error.NumberingError.{NumberingError}
+use Rattle.rbg_game.proofs.Common.{Things, GameError, HasBoardFault, board_directions, names_spelt, HasFault, in_board, in_rules, MakesBoard, AreThingsOf, game_by_numbers}
 use Rattle.rbg_game.proofs.NumberingCommon.{Names, texts_of, Purpose, as_direction, as_piece, as_player, as_variable, names_for, HasRuleFault, IsRuleByNumbers}
 use Rattle.rbg_game.specs.Descriptions.{NamedBoard as BoardByNames, BoardIs, directions_named, holder_names, holders_of, AreBounds, IsGameOf}
 use Rattle.rbg_game.proofs.RuleFaults.{IsAmong, among_same, rule_fault_by}
@@ -36,7 +35,7 @@ module _ (d : SpeltDescription) (things : Things) (board : NamedBoard) (whole : 
   names_known as_player = among_same (holder_names d.players) things.players (sym are.players)
   names_known as_variable = among_same (holder_names (holders_of d)) things.variables (sym are.variables)
 
-  pub rules_unlawful : (error : NumberingError) → HasRuleFault (rule_names things board) d.rules error → HasFault d (game_error_of error)
+  pub rules_unlawful : (error : GameError) → HasRuleFault (rule_names things board) d.rules error → HasFault d error
   rules_unlawful error fault = in_rules (rule_fault_by (names_spelt d) (rule_names things board) d.rules error names_known fault)
 
 module _ (d : SpeltDescription) (things : Things) (board : NamedBoard) (rules : Expression) (whole : IsWhole d) (are : AreThingsOf d things)

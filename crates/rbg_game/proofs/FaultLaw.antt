@@ -5,7 +5,7 @@ use Rattle.rbg_board.specs.declared.error.BoardError.{BoardError}
 use Rattle.rbg_board.specs.declared.error.BoardError.TheVariants as board_errors
 use Rattle.rbg_grammar.proofs.Common.{SpeltName, SpeltBounded, SpeltEdge, SpeltVertex, SpeltBoard, rectangle, hexagon, graph, SpeltDescription}
 use Rattle.rbg_rules.specs.Meaning.{AbstractGame, max_bound, most_directions, AreDifferentNames, AreLawfulNames}
-use Rattle.rbg_game.proofs.Common.{GameError, game_error_of, Memory, names_in, NamedBoard, board_in, IsRowsBoard, IsRectangleBoard, IsHexagonBoard, IsGraphBoard, VertexIs, BoardIs, directions_named, holder_names, holders_of, AreBounds, IsGameOf, OccursAgain, HasGreatBound, HaveOneName, HasRowsFault, HasBoardFault, unknown_piece, many_directions, no_rectangle, no_hexagon, no_graph, board_memory, board_directions, board_pieces, names_of_holders, names_spelt, same_holder, same_piece, great_bound, many_players, many_pieces, many_variables, in_board, in_rules, memory, NoGameWithFaultLaw}
+use Rattle.rbg_game.proofs.Common.{GameError, Memory, names_in, NamedBoard, board_in, IsRowsBoard, IsRectangleBoard, IsHexagonBoard, IsGraphBoard, VertexIs, BoardIs, directions_named, holder_names, holders_of, AreBounds, IsGameOf, OccursAgain, HasGreatBound, HaveOneName, HasRowsFault, HasBoardFault, unknown_piece, many_directions, no_rectangle, no_hexagon, no_graph, board_memory, board_directions, board_pieces, names_of_holders, names_spelt, same_holder, same_piece, great_bound, many_players, many_pieces, many_variables, in_board, in_rules, memory, NoGameWithFaultLaw}
 use Rattle.rbg_game.proofs.NumberingCommon.{texts_of, Purpose, as_direction, as_piece, as_player, as_variable, names_for}
 use Rattle.rbg_base.proofs.CallerLemmas.{Contains-from_get, get_from-Contains, slice_get-map_at}
 use Rattle.rbg_game.proofs.Lists.{map_entry, fellow}
@@ -142,5 +142,5 @@ no_game_with_fault d _ (many_variables many) other game is = absurd (omega (arit
 no_game_with_fault d error (in_board h) other game is =
     board_fault_fails (board_in game) d.board error (subst (λ pieces. HasBoardFault pieces d.board error) (sym is.pieces) h) other is.lawful.piece_names.differ is.lawful.limits.directions is.board
 no_game_with_fault d _ (in_rules {error = error} h) other game is =
-    rule_fault_fails (names_in game) d.rules error game.rules (rule_fault_by (names_in game) (names_spelt d) d.rules error (names_among d game is) h) (λ memory. other (ap game_error_of memory)) is.lawful.limits.positions is.lawful.limits.nesting is.lawful.switches is.rules
+    rule_fault_fails (names_in game) d.rules error game.rules (rule_fault_by (names_in game) (names_spelt d) d.rules error (names_among d game is) h) (λ memory. other memory) is.lawful.limits.positions is.lawful.limits.nesting is.lawful.switches is.rules
 no_game_with_fault d _ memory other game is = other refl

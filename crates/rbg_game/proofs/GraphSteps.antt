@@ -5,8 +5,8 @@ use Rattle.rbg_board.specs.declared.error.BoardError.TheVariants as board_errors
 use Rattle.rbg_grammar.proofs.Common.{SpeltName, SpeltEdge, SpeltVertex, graph, edge_of, vertex_of}
 use Rattle.rbg_grammar.specs.declared.description.Edge.{Edge}
 use Rattle.rbg_grammar.specs.declared.description.Vertex.{Vertex}
-use Rattle.rbg_game.specs.declared.numbering_error.NumberingError.{NumberingError}
-use Rattle.rbg_game.specs.declared.numbering_error.NumberingError.TheVariants as errors
+use Rattle.rbg_game.specs.declared.game_error.GameError.{GameError}
+use Rattle.rbg_game.specs.declared.game_error.GameError.TheVariants as errors
 use Rattle.rbg_game.proofs.NumberingCommon.{IsNumberOf, HasLookUpFault, not_there, no_memory}
 use Rattle.rbg_base.proofs.CallerLemmas.{map-take_more, slice_get-map_at, Contains-map}
 use Rattle.rbg_game.proofs.Lists.{slice_get-map_read, Contains-one, entry_of_front, Contains-flat_map, Contains-map_read, AllZip-at}
@@ -77,7 +77,7 @@ name_new vertices i vertex old new n below is before joins later =
     ]
 
 -- a name that is known is found, unless memory runs out
-pub known_found : (known : List (List ℕ)) (name : SpeltName) (error : NumberingError) → Contains known name.text → HasLookUpFault known (name ∷ []) error → error ≡ errors.Memory
+pub known_found : (known : List (List ℕ)) (name : SpeltName) (error : GameError) → Contains known name.text → HasLookUpFault known (name ∷ []) error → error ≡ errors.Memory
 known_found known name _ there (not_there h) = absurd (h.unknown (subst (λ (n : SpeltName). Contains known n.text) (Contains-one name h.name h.stands) there))
 known_found known name _ there no_memory = refl
 

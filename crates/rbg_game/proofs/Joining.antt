@@ -7,8 +7,8 @@ use Rattle.rbg_base.proofs.CallerLemmas.{AllZip-weaker, Contains-from_get, get_f
 use Rattle.rbg_board.specs.Cells.{AreDifferent}
 use Rattle.rbg_grammar.specs.Tree.{SpeltName}
 use Rattle.rbg_rules.specs.Meaning.{AreDifferentNames}
-use Rattle.rbg_game.specs.declared.numbering_error.NumberingError.{NumberingError}
-use Rattle.rbg_game.specs.declared.numbering_error.NumberingError.TheVariants as errors
+use Rattle.rbg_game.specs.declared.game_error.GameError.{GameError}
+use Rattle.rbg_game.specs.declared.game_error.GameError.TheVariants as errors
 use Rattle.rbg_game.proofs.NumberingCommon.{IsNumberOf, HasNameFault, same_name, no_memory}
 use Rattle.rbg_game.proofs.Common.{IsOrderOfFirstUse, Joins, NumbersDirections, AddsInOrder}
 use Rattle.rbg_game.proofs.Lists.{slice_get-last, Contains-one}
@@ -24,7 +24,7 @@ pub joins_new : (table : List (List ℕ)) (text : List ℕ) → ¬ Contains tabl
 joins_new table text new = record { number = slice_get-last table text; table = inr (refl, refl, new) }
 
 -- a new name is added, unless memory runs out
-pub new_name_fault : (known : List (List ℕ)) (name : SpeltName) (error : NumberingError) → ¬ Contains known name.text → HasNameFault known (name ∷ []) error → error ≡ errors.Memory
+pub new_name_fault : (known : List (List ℕ)) (name : SpeltName) (error : GameError) → ¬ Contains known name.text → HasNameFault known (name ∷ []) error → error ≡ errors.Memory
 new_name_fault known name _ fresh (same_name {at = at} h) = absurd (fresh (again_alone known name at h).0)
 new_name_fault known name _ fresh no_memory = refl
 

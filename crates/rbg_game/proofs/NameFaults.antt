@@ -3,8 +3,7 @@ use Rattle.rbg_base.proofs.Common.{◌≡◌, ℕ, ◌+◌, ◌<◌, ◌≤◌, 
 use Rattle.rbg_grammar.proofs.Common.{SpeltName, SpeltBounded, SpeltDescription, bounded_of}
 use Rattle.rbg_grammar.specs.declared.description.Bounded.{Bounded}
 use Rattle.rbg_rules.specs.Meaning.{max_bound}
-use Rattle.rbg_game.proofs.Common.{GameError, game_error_of, holder_names, holders_of, OccursAgain, HasGreatBound, names_of_holders, HasFault, same_holder, same_piece, great_bound, memory, HasHolderFault, by_name, by_bound, AddsBounds}
-use Rattle.rbg_game.specs.declared.numbering_error.NumberingError.{NumberingError}
+use Rattle.rbg_game.proofs.Common.{GameError, holder_names, holders_of, OccursAgain, HasGreatBound, names_of_holders, HasFault, same_holder, same_piece, great_bound, memory, HasHolderFault, by_name, by_bound, AddsBounds}
 use Rattle.rbg_game.proofs.NumberingCommon.{texts_of, OccursAfter, HasNameFault, same_name, no_memory}
 use Rattle.rbg_game.proofs.LookUps.{name_fault_at}
 use Rattle.rbg_base.proofs.CallerLemmas.{slice_get-map_at, Contains-from_get, get_from-Contains, slice_get-append_left, slice_get-append_right, AllZip-append}
@@ -100,7 +99,7 @@ module _ (d : SpeltDescription) (before here after : List SpeltBounded) (all : h
         place = h.place;
       }
 
-  names_fault : (error : NumberingError) → HasNameFault (holder_names before) (names_in_list here) error → HasFault d (game_error_of error)
+  names_fault : (error : GameError) → HasNameFault (holder_names before) (names_in_list here) error → HasFault d error
   names_fault _ (same_name {at = at} h) = same_holder (again_there at h)
   names_fault _ no_memory = memory
 
@@ -114,7 +113,7 @@ players_fault d = holders_fault d [] d.players d.variables refl
 pub variables_fault : (d : SpeltDescription) (error : GameError) → HasHolderFault (holder_names d.players) d.variables error → HasFault d error
 variables_fault d = holders_fault d d.players d.variables [] (sym (append-nil (d.players ++ d.variables)))
 
-pub pieces_fault : (d : SpeltDescription) (error : NumberingError) → HasNameFault [] d.pieces error → HasFault d (game_error_of error)
+pub pieces_fault : (d : SpeltDescription) (error : GameError) → HasNameFault [] d.pieces error → HasFault d error
 pieces_fault d _ (same_name {at = at} h) =
     let P : List SpeltName → Type 0 = λ l. OccursAgain l at in
     same_piece (subst P (append-nil d.pieces) (again_in_all [] d.pieces [] at h))

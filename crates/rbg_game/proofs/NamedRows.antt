@@ -6,9 +6,9 @@ use Rattle.rbg_board.proofs.Common.{Graph, HasWidth, IsGraphOf, Rows, width_of, 
 use Rattle.rbg_board.specs.declared.error.BoardError.{BoardError}
 use Rattle.rbg_board.specs.declared.error.BoardError.TheVariants as board_errors
 use Rattle.rbg_rules.specs.Meaning.{most_directions, AreDifferentNames}
-use Rattle.rbg_game.specs.declared.numbering_error.NumberingError.{NumberingError}
+use Rattle.rbg_game.specs.declared.game_error.GameError.{GameError}
 use Rattle.rbg_game.specs.Descriptions.{IsRowsBoard, BoardIs, NamedBoard as DescribedBoard}
-use Rattle.rbg_game.proofs.Common.{game_error_of, GameError, board_pieces, HasRowsFault, HasBoardFault, unknown_piece, board_memory, MakesBoard, NumbersDirections, IsNamed, IsRefusedFor, refusal_of}
+use Rattle.rbg_game.proofs.Common.{board_pieces, HasRowsFault, HasBoardFault, unknown_piece, board_memory, MakesBoard, NumbersDirections, IsNamed, IsRefusedFor, refusal_of}
 use Rattle.rbg_game.specs.declared.checking.boards.NamedBoard.{NamedBoard}
 use Rattle.rbg_game.specs.declared.game_error.GameError.TheVariants as errors
 use Rattle.rbg_game.specs.NameNumbers.{IsNumberOf, texts_of}
@@ -48,7 +48,7 @@ of_err P same all = subst (λ r. IfErr r P) same all
 -- Faults.
 
 -- an unknown piece is a fault of the board
-pub cells_fault : (pieces : List (List ℕ)) (board : SpeltBoard) (error : NumberingError) → HasLookUpFault pieces (board_pieces board) error → HasBoardFault pieces board (game_error_of error)
+pub cells_fault : (pieces : List (List ℕ)) (board : SpeltBoard) (error : GameError) → HasLookUpFault pieces (board_pieces board) error → HasBoardFault pieces board error
 cells_fault pieces board _ (not_there h) = unknown_piece h
 cells_fault pieces board _ look_up_memory = board_memory
 

@@ -4,8 +4,8 @@ pub use Rattle.rbg_game.specs.NameTables.{HasLookUpFault, HasNameFault, OccursAf
 pub use Rattle.rbg_game.specs.NameNumbers.{HasDifferentNames, IsNumberOf, Names, texts_of}
 pub use Rattle.rbg_game.specs.Numbered.{HasAsMany, HasNoSwitchInPattern, IsRuleByNumbers, names_of}
 pub use Rattle.rbg_game.specs.Rules.{ActionIs, ArithmeticIs, ChainIs, PartsAre, RuleIs}
-pub use Rattle.rbg_game.specs.declared.numbering_error.NumberingError.{NumberingError}
-pub use Rattle.rbg_game.specs.declared.numbering_error.NumberingError.TheVariants.{Memory, NumberTooGreat, SameName, SwitchInPattern, UnknownName}
+pub use Rattle.rbg_game.specs.declared.game_error.GameError.{GameError}
+pub use Rattle.rbg_game.specs.declared.game_error.GameError.TheVariants.{Memory, Bound, SameName, SwitchInPattern, UnknownName}
 pub use Rattle.rbg_game.specs.internal.Actions.{HasActionFault, HasOpeningFault, OpensPattern, is_spelt_pattern, no_memory_left, too_deep, too_many}
 pub use Rattle.rbg_game.specs.internal.Arithmetic.{Combines}
 pub use Rattle.rbg_game.specs.internal.Steps.{AddsParts, AddsRule, AreNumbered, HasFaultFrom, IsLawful, IsLawfulAction, Numbers, actions_in_list, from_arithmetic, from_depth, from_inner_switch, from_memory, from_positions, from_switch, from_use}

@@ -3,7 +3,7 @@ use Rattle.rbg_base.proofs.Common.{◌≡◌, ◌≢◌, ℕ, suc, ◌+◌, ◌�
 use Rattle.std.proofs.lemmas.List.{length-append}
 use Rattle.rbg_grammar.specs.Tree.{SpeltName, SpeltExpression, SpeltOperands, no_operands, SpeltRule, SpeltRules, no_rules, more_rules, SpeltAction}
 use Rattle.rbg_rules.specs.Meaning.{AbstractArithmetic, AbstractAction, switch, Expression, skip, sequence, fail, choice, NestsWithin, InsideNestsWithin, HasAction, HasInside, positions_of, positions_inside, IsPatternOf, IsLevel, inside as level_of, most_positions, most_nested_patterns}
-use Rattle.rbg_game.proofs.NumberingCommon.{NumberingError, Memory, Names, IsNumberOf, ArithmeticIs, ChainIs, ActionIs, RuleIs, PartsAre, HasUnknown, Purpose, as_piece, as_variable, names_for, Uses, shifts, stands_on, puts, assigns, gives_turn, HasPart, itself, in_negated, in_chain, SomeOperandHasPart, earlier_operand, last_operand, HasArithmeticFault, unknown_value, great_number, arithmetic_memory, HasExpression, assigned, left_side, right_side, HasSpeltAction, this, in_sequence, in_choice, in_star, in_positive, in_negative, SomeHasSpeltAction, earlier, last, actions_in, actions_in_all, actions_of, IsSpeltPattern, positive_pattern, negative_pattern, HasPattern, HasPatternInside, in_none, in_one_more, HasRuleFault, unknown_use, in_arithmetic, switch_in_pattern, deep_pattern, many_positions, rule_memory, HasNoSwitchInPattern}
+use Rattle.rbg_game.proofs.NumberingCommon.{GameError, Memory, Names, IsNumberOf, ArithmeticIs, ChainIs, ActionIs, RuleIs, PartsAre, HasUnknown, Purpose, as_piece, as_variable, names_for, Uses, shifts, stands_on, puts, assigns, gives_turn, HasPart, itself, in_negated, in_chain, SomeOperandHasPart, earlier_operand, last_operand, HasArithmeticFault, unknown_value, great_number, arithmetic_memory, HasExpression, assigned, left_side, right_side, HasSpeltAction, this, in_sequence, in_choice, in_star, in_positive, in_negative, SomeHasSpeltAction, earlier, last, actions_in, actions_in_all, actions_of, IsSpeltPattern, positive_pattern, negative_pattern, HasPattern, HasPatternInside, in_none, in_one_more, HasRuleFault, unknown_use, in_arithmetic, switch_in_pattern, deep_pattern, many_positions, rule_memory, HasNoSwitchInPattern}
 use Rattle.rbg_base.proofs.CallerLemmas.{Contains-from_get}
 use Rattle.rbg_game.proofs.Lists.{Contains-one, AllZip-at}
 use Rattle.rbg_game.proofs.Reaching.{reaches}
@@ -101,7 +101,7 @@ mutual
   part_of_chain names _ part a (last_operand {e = e} h) (inr (b, c, before, is, f)) = part_is names e part c h is
 
 -- an expression with a fault has no numbers
-arithmetic_fails : (names : Names) (e : SpeltExpression) (error : NumberingError) (a : AbstractArithmetic) → HasArithmeticFault names e error → error ≢ Memory → ¬ ArithmeticIs names e a
+arithmetic_fails : (names : Names) (e : SpeltExpression) (error : GameError) (a : AbstractArithmetic) → HasArithmeticFault names e error → error ≢ Memory → ¬ ArithmeticIs names e a
 arithmetic_fails names e _ a (unknown_value h) other is =
     let (b, value) = part_is names e (SpeltExpression.name h.name) a h.stands is in
     elim value [
@@ -115,7 +115,7 @@ arithmetic_fails names e _ a (great_number h) other is =
 arithmetic_fails names e _ a arithmetic_memory other is = other refl
 
 -- an action with such an expression neither
-expression_fails : (names : Names) (s : SpeltAction) (e : SpeltExpression) (error : NumberingError) (b : AbstractAction) → HasExpression s e → HasArithmeticFault names e error → error ≢ Memory → ¬ ActionIs names s b
+expression_fails : (names : Names) (s : SpeltAction) (e : SpeltExpression) (error : GameError) (b : AbstractAction) → HasExpression s e → HasArithmeticFault names e error → error ≢ Memory → ¬ ActionIs names s b
 expression_fails names _ e error b assigned h other (v, a, is, is_value, f) = arithmetic_fails names e error a h other is_value
 expression_fails names _ e error b left_side h other (a, c, left, right, f) = arithmetic_fails names e error a h other left
 expression_fails names _ e error b right_side h other (a, c, left, right, f) = arithmetic_fails names e error c h other right
@@ -171,7 +171,7 @@ too_deep names _ _ at limit x (in_one_more {r = r} {inside = inside} {outer = ou
     too_deep names inside outer at less there.rule deeper (omega arith) nested there.is_rule
 
 -- A rule with the fault that is named has no rules by numbers.
-pub rule_fault_fails : (names : Names) (r : SpeltRule) (error : NumberingError) (x : Expression) → HasRuleFault names r error → error ≢ Memory → length (positions_of x) ≤ most_positions → NestsWithin most_nested_patterns x → HasNoSwitchInPattern x → ¬ RuleIs names r x
+pub rule_fault_fails : (names : Names) (r : SpeltRule) (error : GameError) (x : Expression) → HasRuleFault names r error → error ≢ Memory → length (positions_of x) ≤ most_positions → NestsWithin most_nested_patterns x → HasNoSwitchInPattern x → ¬ RuleIs names r x
 rule_fault_fails names r _ x (unknown_use {action = s} {purpose = purpose} {used = used} {at = at} stands uses h) other few nests apart is =
     let (p, b, named, has) = action_in_rule names r x s stands is in
     use_fails names s purpose used at b uses h named
@@ -195,7 +195,7 @@ pub among_same : (few all : List (List ℕ)) → few ≡ all → IsAmong few all
 among_same few all same name has = subst (λ l. Contains l name) same has
 
 -- what is wrong with an expression or a rule is also wrong if there are no further names
-arithmetic_fault_by : (few all : Names) (e : SpeltExpression) (error : NumberingError) → ((purpose : Purpose) → IsAmong (names_for few purpose) (names_for all purpose)) → HasArithmeticFault all e error → HasArithmeticFault few e error
+arithmetic_fault_by : (few all : Names) (e : SpeltExpression) (error : GameError) → ((purpose : Purpose) → IsAmong (names_for few purpose) (names_for all purpose)) → HasArithmeticFault all e error → HasArithmeticFault few e error
 arithmetic_fault_by few all e _ among (unknown_value h) =
     unknown_value (record {
       name = h.name;
@@ -207,7 +207,7 @@ arithmetic_fault_by few all e _ among (unknown_value h) =
 arithmetic_fault_by few all e _ among (great_number h) = great_number h
 arithmetic_fault_by few all e _ among arithmetic_memory = arithmetic_memory
 
-pub rule_fault_by : (few all : Names) (r : SpeltRule) (error : NumberingError) → ((purpose : Purpose) → IsAmong (names_for few purpose) (names_for all purpose)) → HasRuleFault all r error → HasRuleFault few r error
+pub rule_fault_by : (few all : Names) (r : SpeltRule) (error : GameError) → ((purpose : Purpose) → IsAmong (names_for few purpose) (names_for all purpose)) → HasRuleFault all r error → HasRuleFault few r error
 rule_fault_by few all r _ among (unknown_use {purpose = purpose} stands uses h) =
     unknown_use stands uses (record { name = h.name; stands = h.stands; unknown = λ known. h.unknown (among purpose h.name.text known); place = h.place })
 rule_fault_by few all r error among (in_arithmetic stands has h) = in_arithmetic stands has (arithmetic_fault_by few all _ error among h)

@@ -10,7 +10,7 @@ use Rattle.rbg_grammar.proofs.Trees.{rule_of-Act, rule_of-Then, rule_of-Or, rule
 use Rattle.rbg_rules.specs.declared.rule.Action.{Action}
 use Rattle.rbg_rules.specs.declared.rule.Action.TheVariants.{Positive, Negative}
 use Rattle.rbg_rules.specs.declared.rule.Rule.{Rule}
-use Rattle.rbg_game.proofs.NumberingCommon.{NumberingError, Names, OpensPattern, actions_in_list, AddsRule, AddsParts, HasFaultFrom}
+use Rattle.rbg_game.proofs.NumberingCommon.{GameError, Names, OpensPattern, actions_in_list, AddsRule, AddsParts, HasFaultFrom}
 use Rattle.rbg_base.proofs.CallerLemmas.{map-take_more}
 use Rattle.rbg_game.proofs.StepLemmas.{parts_more, Opens, opens_positive, opens_negative, spelt_pattern_of}
 use Rattle.rbg_game.proofs.StepFaults.{fault_in_parts, fault_inside}
@@ -67,7 +67,7 @@ part_formed ps k p all below is = subst (λ (q : ParsedRule). is_formed (rule_of
 pub next_part : (names : Names) (left : ℕ) (ps : List ParsedRule) (k : ℕ) (p : ParsedRule) (old mid new : List Action) (xs : List Rule) (x : Rule) → k < length ps → p ≡ get_or ps k p → AddsParts names left (map rule_of (take k ps)) old mid xs → AddsRule names left (rule_of p) mid new x → AddsParts names left (map rule_of (take (k + 1) ps)) old new (xs ++ x ∷ [])
 next_part names left ps k p old mid new xs x below is so_far adds = rw (map-take_more rule_of ps k p below is) (parts_more names left (map rule_of (take k ps)) (rule_of p) old mid new xs x so_far adds)
 
-pub fault_of_next : (names : Names) (left : ℕ) (ps : List ParsedRule) (k : ℕ) (p : ParsedRule) (old mid : List Action) (xs : List Rule) (error : NumberingError) → k < length ps → p ≡ get_or ps k p → AddsParts names left (map rule_of (take k ps)) old mid xs → HasFaultFrom names left (length mid) (rule_of p) error → HasFaultFrom names left (length old) (SpeltRule.sequence (rules_after no_rules (map rule_of ps))) error
+pub fault_of_next : (names : Names) (left : ℕ) (ps : List ParsedRule) (k : ℕ) (p : ParsedRule) (old mid : List Action) (xs : List Rule) (error : GameError) → k < length ps → p ≡ get_or ps k p → AddsParts names left (map rule_of (take k ps)) old mid xs → HasFaultFrom names left (length mid) (rule_of p) error → HasFaultFrom names left (length old) (SpeltRule.sequence (rules_after no_rules (map rule_of ps))) error
 fault_of_next names left ps k p old mid xs error below is so_far h =
     let same : get_or (map rule_of ps) k (rule_of p) ≡ rule_of p = get_or-map rule_of ps k p (rule_of p) below ∙ ap rule_of (sym is) in
     let count : length mid ≡ length old + actions_in_list (take k (map rule_of ps)) = so_far.count ∙ ap (λ l. length old + actions_in_list l) (sym (take-map rule_of k ps)) in
@@ -77,7 +77,7 @@ pub all_parts : (names : Names) (left : ℕ) (ps : List ParsedRule) (k : ℕ) (o
 all_parts names left ps k old new xs done h = subst (λ (l : List ParsedRule). AddsParts names left (map rule_of l) old new xs) (take_all k ps done) h
 
 -- What is wrong inside a pattern that was opened.
-pub fault_of_inside : (names : Names) (left : ℕ) (s : SpeltAction) (at : ℕ) (r : SpeltRule) (pattern : Action) (old mid : List Action) (p : ℕ) (error : NumberingError) → Opens s at r pattern → OpensPattern left pattern old mid p → HasFaultFrom names (left - 1) (length mid) r error → HasFaultFrom names left (length old) (SpeltRule.act s) error
+pub fault_of_inside : (names : Names) (left : ℕ) (s : SpeltAction) (at : ℕ) (r : SpeltRule) (pattern : Action) (old mid : List Action) (p : ℕ) (error : GameError) → Opens s at r pattern → OpensPattern left pattern old mid p → HasFaultFrom names (left - 1) (length mid) r error → HasFaultFrom names left (length old) (SpeltRule.act s) error
 fault_of_inside names left s at r pattern old mid p error opens h fault =
     let long : length mid ≡ length old + 1 = omega (arith, ap length h.added, length-append old (pattern ∷ [])) in
     let few : left ≡ suc (left - 1) = omega (arith, h.some_left) in

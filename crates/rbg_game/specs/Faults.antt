@@ -13,10 +13,8 @@ use Rattle.rbg_rules.specs.Meaning.{most_players, most_pieces, most_variables, m
 use Rattle.rbg_game.specs.declared.game_error.GameError.{GameError}
 use Rattle.rbg_game.specs.declared.game_error.GameError.TheVariants.{UnknownName, SameName, Bound, TooMany, Memory, Board}
 use Rattle.rbg_game.specs.declared.game_error.Thing.TheVariants.{Players, Pieces, Variables, Directions}
-use Rattle.rbg_game.specs.declared.numbering_error.NumberingError.{NumberingError}
 use Rattle.rbg_game.specs.NameNumbers.{Names, IsNumberOf, texts_of}
 use Rattle.rbg_game.specs.RuleFaults.{HasUnknown, HasRuleFault}
-use Rattle.rbg_game.specs.GameErrors.{game_error_of}
 use Rattle.rbg_game.specs.Descriptions.{holder_names, holders_of, vertex_names, directions_named, IsOrderOfFirstUse}
 
 -- The name is in the list at this offset, and the same name is before it.
@@ -171,8 +169,8 @@ pub data HasFault (d : SpeltDescription) : GameError → Type 0 where
   in_board : {error : GameError}
       → HasBoardFault (texts_of d.pieces) d.board error
       → HasFault d error
-  in_rules : {error : NumberingError}
+  in_rules : {error : GameError}
       → HasRuleFault (names_spelt d) d.rules error
-      → HasFault d (game_error_of error)
+      → HasFault d error
   memory :
       HasFault d Memory

@@ -2,8 +2,8 @@
 use Rattle.std.specs.Prelude.{◌≡◌, ◌≢◌}
 use Rattle.rbg_grammar.specs.Tree.{SpeltRule}
 use Rattle.rbg_rules.specs.Meaning.{Expression}
-use Rattle.rbg_game.specs.declared.numbering_error.NumberingError.{NumberingError}
-use Rattle.rbg_game.specs.declared.numbering_error.NumberingError.TheVariants.{Memory}
+use Rattle.rbg_game.specs.declared.game_error.GameError.{GameError}
+use Rattle.rbg_game.specs.declared.game_error.GameError.TheVariants.{Memory}
 use Rattle.rbg_game.specs.NameNumbers.{Names, HasDifferentNames}
 use Rattle.rbg_game.specs.RuleFaults.{HasRuleFault}
 use Rattle.rbg_game.specs.Numbered.{IsRuleByNumbers}
@@ -20,7 +20,7 @@ OneNumberingLaw =
 -- A rule with a fault has no numbers.
 abbrev pub NoNumbersWithFaultLaw : Type 0
 NoNumbersWithFaultLaw =
-    (names : Names) (rule : SpeltRule) (error : NumberingError)
+    (names : Names) (rule : SpeltRule) (error : GameError)
     → HasRuleFault names rule error
     → error ≢ Memory
     → (x : Expression)

@@ -2,8 +2,8 @@
 use Rattle.std.specs.Prelude.{◌≡◌, ℕ, List, Vec, Some, ◌++◌, map, take, slice_get, Contains}
 use Rattle.std.specs.Global.{Global}
 use Rattle.rbg_grammar.specs.Tree.{SpeltName}
-use Rattle.rbg_game.specs.declared.numbering_error.NumberingError.{NumberingError}
-use Rattle.rbg_game.specs.declared.numbering_error.NumberingError.TheVariants.{UnknownName, SameName, Memory}
+use Rattle.rbg_game.specs.declared.game_error.GameError.{GameError}
+use Rattle.rbg_game.specs.declared.game_error.GameError.TheVariants.{UnknownName, SameName, Memory}
 use Rattle.rbg_game.specs.NameNumbers.{texts_of}
 use Rattle.rbg_game.specs.RuleFaults.{HasUnknown}
 
@@ -12,7 +12,7 @@ abbrev pub bytes_of : List (Vec ℕ Global) → List (List ℕ)
 bytes_of names = map (λ name. name.items) names
 
 -- What is wrong with names that are looked up among those that are known.
-pub data HasLookUpFault (known : List (List ℕ)) (names : List SpeltName) : NumberingError → Type 0 where
+pub data HasLookUpFault (known : List (List ℕ)) (names : List SpeltName) : GameError → Type 0 where
   not_there : {at : ℕ}
       → HasUnknown known names at
       → HasLookUpFault known names (UnknownName at)
@@ -28,7 +28,7 @@ pub record OccursAfter (earlier : List (List ℕ)) (names : List SpeltName) (at 
   pub place : name.at ≡ at
 
 -- What is wrong with names that are added after the earlier ones.
-pub data HasNameFault (earlier : List (List ℕ)) (names : List SpeltName) : NumberingError → Type 0 where
+pub data HasNameFault (earlier : List (List ℕ)) (names : List SpeltName) : GameError → Type 0 where
   same_name : {at : ℕ}
       → OccursAfter earlier names at
       → HasNameFault earlier names (SameName at)

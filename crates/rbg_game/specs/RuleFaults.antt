@@ -5,8 +5,9 @@ use Rattle.rbg_grammar.specs.Tree.{SpeltRule, SpeltRules, no_rules, more_rules, 
 use Rattle.rbg_base.specs.declared.operator.Operator.{Operator}
 use Rattle.rbg_base.specs.declared.relation.Relation.{Relation}
 use Rattle.rbg_rules.specs.Meaning.{most_positions, most_nested_patterns}
-use Rattle.rbg_game.specs.declared.numbering_error.NumberingError.{NumberingError}
-use Rattle.rbg_game.specs.declared.numbering_error.NumberingError.TheVariants.{UnknownName, NumberTooGreat, SwitchInPattern, PatternTooDeep, TooManyPositions, Memory}
+use Rattle.rbg_game.specs.declared.game_error.GameError.{GameError}
+use Rattle.rbg_game.specs.declared.game_error.GameError.TheVariants.{UnknownName, Bound, SwitchInPattern, PatternTooDeep, TooMany, Memory}
+use Rattle.rbg_game.specs.declared.game_error.Thing.TheVariants.{Positions}
 use Rattle.rbg_game.specs.NameNumbers.{Names}
 
 -- Names.
@@ -80,13 +81,13 @@ pub record HasGreatNumber (e : SpeltExpression) (at : ℕ) : Type 0 where
   pub place : number.at ≡ at
 
 -- What is wrong with an expression, if these are the names.
-pub data HasArithmeticFault (names : Names) (e : SpeltExpression) : NumberingError → Type 0 where
+pub data HasArithmeticFault (names : Names) (e : SpeltExpression) : GameError → Type 0 where
   unknown_value : {at : ℕ}
       → HasUnknownValue names e at
       → HasArithmeticFault names e (UnknownName at)
   great_number : {at : ℕ}
       → HasGreatNumber e at
-      → HasArithmeticFault names e (NumberTooGreat at)
+      → HasArithmeticFault names e (Bound at)
   arithmetic_memory :
       HasArithmeticFault names e Memory
 
@@ -181,13 +182,13 @@ abbrev mutual
 --   switch_in_pattern: a pattern has a switch inside
 --   deep_pattern: a pattern is inside too many others
 --   many_positions: there are too many actions
-pub data HasRuleFault (names : Names) (rule : SpeltRule) : NumberingError → Type 0 where
+pub data HasRuleFault (names : Names) (rule : SpeltRule) : GameError → Type 0 where
   unknown_use : {action : SpeltAction} {purpose : Purpose} {used : List SpeltName} {at : ℕ}
       → HasSpeltAction rule action
       → Uses action purpose used
       → HasUnknown (names_for names purpose) used at
       → HasRuleFault names rule (UnknownName at)
-  in_arithmetic : {action : SpeltAction} {e : SpeltExpression} {error : NumberingError}
+  in_arithmetic : {action : SpeltAction} {e : SpeltExpression} {error : GameError}
       → HasSpeltAction rule action
       → HasExpression action e
       → HasArithmeticFault names e error
@@ -201,6 +202,6 @@ pub data HasRuleFault (names : Names) (rule : SpeltRule) : NumberingError → Ty
       → HasRuleFault names rule (PatternTooDeep at)
   many_positions :
       most_positions < actions_in rule
-      → HasRuleFault names rule TooManyPositions
+      → HasRuleFault names rule (TooMany Positions)
   rule_memory :
       HasRuleFault names rule Memory

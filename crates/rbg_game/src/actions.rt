@@ -10,8 +10,8 @@ ghost use Rattle.rbg_rules.specs.declared.rule.Rule.TheVariants as rules;
 ghost use Rattle.rbg_grammar.specs.Tree.{act};
 
 use crate::arithmetic::number_expression;
+use crate::game_error::{GameError, Thing};
 use crate::name_table::NameTable;
-use crate::numbering_error::NumberingError;
 use crate::tables::NameTables;
 use rbg_grammar::{Name, ParsedAction};
 use rbg_rules::Action;
@@ -25,7 +25,7 @@ pub(crate) fn add_action(
     patterns_left: usize,
     action: &ParsedAction<'_>,
     actions: &mut Vec<Action>,
-) -> Result<u32, NumberingError>
+) -> Result<u32, GameError>
     requires plain { is_spelt_pattern (spelt_action_of action.now) ≡ false }
     requires formed { is_formed_action (spelt_action_of action.now) ≡ true }
     requires limits { IsWithinLimits (names_of names.now) }
@@ -39,7 +39,9 @@ pub(crate) fn add_action(
         (act (spelt_action_of action.now))) }
 {
     if actions.len() == MAX_POSITIONS {
-        return Err(NumberingError::TooManyPositions);
+        return Err(GameError::TooMany {
+            what: Thing::Positions,
+        });
     }
     actions.push(number_action(alloc, names, patterns_left, action)?)?;
     Ok(actions.len() as u32)
@@ -52,17 +54,19 @@ pub(crate) fn open_pattern(
     at: usize,
     pattern: Action,
     actions: &mut Vec<Action>,
-) -> Result<u32, NumberingError>
+) -> Result<u32, GameError>
     requires room { length actions.old.items ≤ MAX_POSITIONS }
     ensures opened { IfOk result (OpensPattern patterns_left pattern actions.old.items
         actions.new.items) }
     ensures fault { IfErr result (HasOpeningFault patterns_left at (length actions.old.items)) }
 {
     if actions.len() == MAX_POSITIONS {
-        return Err(NumberingError::TooManyPositions);
+        return Err(GameError::TooMany {
+            what: Thing::Positions,
+        });
     }
     if patterns_left == 0 {
-        return Err(NumberingError::PatternTooDeep { at });
+        return Err(GameError::PatternTooDeep { at });
     }
     actions.push(pattern)?;
     Ok(actions.len() as u32)
@@ -73,7 +77,7 @@ fn number_action(
     names: &NameTables<'_>,
     patterns_left: usize,
     action: &ParsedAction<'_>,
-) -> Result<Action, NumberingError>
+) -> Result<Action, GameError>
     requires plain { is_spelt_pattern (spelt_action_of action.now) ≡ false }
     requires formed { is_formed_action (spelt_action_of action.now) ≡ true }
     requires limits { IsWithinLimits (names_of names.now) }
@@ -108,7 +112,7 @@ fn number_action(
         }),
         ParsedAction::Switch { at, player } => {
             if patterns_left < MAX_NESTED_PATTERNS {
-                return Err(NumberingError::SwitchInPattern { at: *at });
+                return Err(GameError::SwitchInPattern { at: *at });
             }
             Ok(Action::Switch {
                 player: number_of_player(names.players, player)?,
@@ -121,7 +125,7 @@ fn number_action(
 }
 
 /// The number of a player, from 1 on. None is the keeper.
-fn number_of_player(table: &NameTable, player: &Option<Name<'_>>) -> Result<u16, NumberingError>
+fn number_of_player(table: &NameTable, player: &Option<Name<'_>>) -> Result<u16, GameError>
     requires { length table.now < 2 ^ 16 }
     ensures number { IfOk result (IsPlayer table.now (option_map name_of player.now)) }
     ensures fault { IfErr result (HasLookUpFault table.now

@@ -10,7 +10,7 @@ ghost use Rattle.rbg_game.specs.RuleFaults.{HasArithmeticFault};
 ghost use Rattle.rbg_game.specs.Numbered.{names_of, IsWithinLimits};
 ghost use Rattle.rbg_game.specs.internal.Arithmetic.{Combines};
 
-use crate::numbering_error::NumberingError;
+use crate::game_error::GameError;
 use crate::tables::NameTables;
 use rbg_grammar::{Expression, Name, Number, Operand};
 use rbg_rules::{Arithmetic, Operation};
@@ -22,7 +22,7 @@ pub(crate) fn number_expression(
     alloc: Global,
     names: &NameTables<'_>,
     expression: &Expression<'_>,
-) -> Result<Arithmetic, NumberingError>
+) -> Result<Arithmetic, GameError>
     requires formed { is_formed_expression (expression_of expression.now) ≡ true }
     requires limits { IsWithinLimits (names_of names.now) }
     ensures value { IfOk result (λ a.
@@ -47,7 +47,7 @@ fn number_operands(
     alloc: Global,
     names: &NameTables<'_>,
     operands: &[Operand<'_>],
-) -> Result<Arithmetic, NumberingError>
+) -> Result<Arithmetic, GameError>
     requires some { 0 < length operands.now }
     requires formed { All (λ o. is_formed_expression (expression_of o.value) ≡ true) operands.now }
     requires limits { IsWithinLimits (names_of names.now) }
@@ -74,7 +74,7 @@ fn number_operand(
     alloc: Global,
     names: &NameTables<'_>,
     operand: &Operand<'_>,
-) -> Result<Operation, NumberingError>
+) -> Result<Operation, GameError>
     requires formed { is_formed_expression (expression_of operand.now.value) ≡ true }
     requires limits { IsWithinLimits (names_of names.now) }
     ensures value { IfOk result (Combines (names_of names.now) (operand_of operand.now)) }
@@ -88,7 +88,7 @@ fn number_operand(
 }
 
 /// The number that is spelt, if it fits signed 64 bits.
-fn number_number(number: Number) -> Result<Arithmetic, NumberingError>
+fn number_number(number: Number) -> Result<Arithmetic, GameError>
     ensures value { (names : Names)
         → IfOk result (λ a.
         ArithmeticIs names (SpeltExpression.number (number_of number)) (arithmetic_of a)) }
@@ -97,12 +97,12 @@ fn number_number(number: Number) -> Result<Arithmetic, NumberingError>
 {
     match number.value {
         Some(value) if value <= i64::MAX as u64 => Ok(Arithmetic::Number(value)),
-        _ => Err(NumberingError::NumberTooGreat { at: number.at }),
+        _ => Err(GameError::Bound { at: number.at }),
     }
 }
 
 /// The variable with a name, or else the piece with it.
-fn number_name(names: &NameTables<'_>, name: &Name<'_>) -> Result<Arithmetic, NumberingError>
+fn number_name(names: &NameTables<'_>, name: &Name<'_>) -> Result<Arithmetic, GameError>
     requires { IsWithinLimits (names_of names.now) }
     ensures value { IfOk result (λ a.
         ArithmeticIs (names_of names.now) (SpeltExpression.name (name_of name.now))

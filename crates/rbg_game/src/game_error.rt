@@ -1,12 +1,10 @@
 //! Why a description is no game.
 ghost use Rattle.std.specs.Prelude.{◌≡◌, ◌<◌, ◌≤◌, IfErr, OnErr, OnOk};
 ghost use Rattle.rbg_game.specs.declared.game_error.GameError.TheVariants as game_errors;
-ghost use Rattle.rbg_game.specs.GameErrors.{game_error_of};
 ghost use Rattle.rbg_game.specs.Names.{thing_name};
 
-use crate::numbering_error::NumberingError;
+use rbg_base::Memory;
 use rbg_board::BoardError;
-use std::alloc::{AllocError, AllocFailed};
 use std::fmt;
 use thiserror::Error;
 
@@ -70,36 +68,11 @@ impl fmt::Display for Thing {
     }
 }
 
-impl From<NumberingError> for GameError {
-    ghost from_gives = { λ cause error. error ≡ game_error_of cause };
-
-    fn from(cause: NumberingError) -> GameError {
-        match cause {
-            NumberingError::UnknownName { at } => GameError::UnknownName { at },
-            NumberingError::SameName { at } => GameError::SameName { at },
-            NumberingError::NumberTooGreat { at } => GameError::Bound { at },
-            NumberingError::SwitchInPattern { at } => GameError::SwitchInPattern { at },
-            NumberingError::PatternTooDeep { at } => GameError::PatternTooDeep { at },
-            NumberingError::TooManyPositions => GameError::TooMany {
-                what: Thing::Positions,
-            },
-            NumberingError::Memory => GameError::Memory,
-        }
-    }
-}
-
-impl From<AllocError> for GameError {
+/// An error of a refused allocation becomes `Memory`.
+impl<E: Into<Memory> + Drop> From<E> for GameError {
     ghost from_gives = { λ _ error. error ≡ game_errors.Memory };
 
-    fn from(_error: AllocError) -> GameError {
-        GameError::Memory
-    }
-}
-
-impl<T: Drop> From<AllocFailed<T>> for GameError {
-    ghost from_gives = { λ _ error. error ≡ game_errors.Memory };
-
-    fn from(_error: AllocFailed<T>) -> GameError {
+    fn from(_error: E) -> GameError {
         GameError::Memory
     }
 }

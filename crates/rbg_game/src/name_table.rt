@@ -7,7 +7,7 @@ ghost use Rattle.rbg_rules.specs.Meaning.{texts, AreLawfulNames};
 ghost use Rattle.rbg_game.specs.NameNumbers.{IsNumberOf};
 ghost use Rattle.rbg_game.specs.NameTables.{HasLookUpFault, HasNameFault};
 
-use crate::numbering_error::NumberingError;
+use crate::game_error::GameError;
 use rbg_grammar::Name;
 use std::alloc::{AllocError, Global};
 use std::collections::BTreeMap;
@@ -71,19 +71,19 @@ impl NameTable {
     }
 
     /// The number of a name that a description uses.
-    pub fn find(&self, name: &Name<'_>) -> Result<u16, NumberingError>
+    pub fn find(&self, name: &Name<'_>) -> Result<u16, GameError>
         requires { length self.now ≤ 2 ^ 16 }
         ensures number { IfOk result (IsNumberOf self.now (name_of name.now)) }
         ensures fault { IfErr result (HasLookUpFault self.now (name_of name.now ∷ [])) }
     {
         match self.number_of(name.text) {
             Some(number) => Ok(number as u16),
-            None => Err(NumberingError::UnknownName { at: name.at }),
+            None => Err(GameError::UnknownName { at: name.at }),
         }
     }
 
     /// The numbers of names that a description uses.
-    pub fn find_all(&self, alloc: Global, names: &[Name<'_>]) -> Result<Vec<u16>, NumberingError>
+    pub fn find_all(&self, alloc: Global, names: &[Name<'_>]) -> Result<Vec<u16>, GameError>
         requires { length self.now ≤ 2 ^ 16 }
         ensures numbers { IfOk result (λ ns.
             AllZip (IsNumberOf self.now) (map name_of names.now) ns.items) }
@@ -97,13 +97,13 @@ impl NameTable {
     }
 
     /// Adds a name after the others.
-    pub fn insert(&mut self, name: &Name<'_>) -> Result<(), NumberingError>
+    pub fn insert(&mut self, name: &Name<'_>) -> Result<(), GameError>
         ensures ok { OnOk result (self.new ≡ self.old ++ name.now.text.now ∷ []) }
         ensures kept { OnErr result (self.new ≡ self.old) }
         ensures fault { IfErr result (HasNameFault self.old (name_of name.now ∷ [])) }
     {
         if self.number_of(name.text).is_some() {
-            return Err(NumberingError::SameName { at: name.at });
+            return Err(GameError::SameName { at: name.at });
         }
         self.push(name.text)?;
         Ok(())

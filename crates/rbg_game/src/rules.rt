@@ -8,7 +8,7 @@ ghost use Rattle.rbg_game.specs.Numbered.{names_of, IsWithinLimits, AreRulesByNu
 ghost use Rattle.rbg_game.specs.internal.Steps.{AddsRule, AddsParts, HasFaultFrom};
 
 use crate::actions::{add_action, open_pattern};
-use crate::numbering_error::NumberingError;
+use crate::game_error::GameError;
 use crate::tables::NameTables;
 use rbg_grammar::{ParsedAction, ParsedRule};
 use rbg_rules::limits::{MAX_NESTED_PATTERNS, MAX_POSITIONS};
@@ -20,7 +20,7 @@ pub fn number_rules(
     alloc: Global,
     names: &NameTables<'_>,
     rule: &ParsedRule<'_>,
-) -> Result<Rules, NumberingError>
+) -> Result<Rules, GameError>
     requires formed { is_formed (rule_of rule.now) ≡ true }
     requires limits { IsWithinLimits (names_of names.now) }
     ensures rules { IfOk result (AreRulesByNumbers (names_of names.now) (rule_of rule.now)) }
@@ -39,7 +39,7 @@ fn number_rule(
     patterns_left: usize,
     rule: &ParsedRule<'_>,
     actions: &mut Vec<Action>,
-) -> Result<Rule, NumberingError>
+) -> Result<Rule, GameError>
     requires formed { is_formed (rule_of rule.now) ≡ true }
     requires limits { IsWithinLimits (names_of names.now) }
     requires room { length actions.old.items ≤ MAX_POSITIONS }
@@ -74,7 +74,7 @@ fn number_parts(
     patterns_left: usize,
     parts: &[ParsedRule<'_>],
     actions: &mut Vec<Action>,
-) -> Result<Vec<Rule>, NumberingError>
+) -> Result<Vec<Rule>, GameError>
     requires formed { All (λ part. is_formed (rule_of part) ≡ true) parts.now }
     requires limits { IsWithinLimits (names_of names.now) }
     requires room { length actions.old.items ≤ MAX_POSITIONS }
@@ -101,7 +101,7 @@ fn number_act(
     patterns_left: usize,
     action: &ParsedAction<'_>,
     actions: &mut Vec<Action>,
-) -> Result<Rule, NumberingError>
+) -> Result<Rule, GameError>
     requires formed { is_formed_action (action_of action.now) ≡ true }
     requires limits { IsWithinLimits (names_of names.now) }
     requires room { length actions.old.items ≤ MAX_POSITIONS }

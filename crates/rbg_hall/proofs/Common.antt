@@ -24,4 +24,4 @@ pub use Rattle.rbg_hall.specs.declared.line.LinePhase.TheVariants.{Over}
 pub use Rattle.rbg_hall.specs.declared.table.Table.{Table}
 pub use Rattle.rbg_hall.specs.internal.First.{IsFirst, IsTaken, index_within}
 pub use Rattle.rbg_hall.specs.internal.Hearing.{EachKeptHears, HearsEachFor, PieceHeard, TablesHear, TablesStop, said_by}
-pub use Rattle.rbg_hall.specs.internal.Parts.{AreReady, FirstHaveLimits, HaveLimits, IsEmptied, IsFaulty, IsPlaced, IsReady, hall_of, ledgers_of, line_of, lines_of, new_kept, new_line, new_tables, states_of}
+pub use Rattle.rbg_hall.specs.internal.Parts.{AreReady, AreWhole, FirstHaveLimits, HaveLimits, IsEmptied, IsFaulty, IsPlaced, IsReady, hall_of, ledgers_of, line_of, lines_of, new_kept, new_line, new_tables, states_of}

@@ -5,7 +5,9 @@ mod Emptying
 pub mod Holding
 mod Phases
 pub mod Places
+mod Between
 mod Seated
+mod Sitting
 pub mod Seats
 pub mod Telling
 pub mod Failing

@@ -1,5 +1,5 @@
 -- The parts of a new hall.
-use Rattle.rbg_base.proofs.Common.{◌≡◌, ◌≢◌, ℕ, false, Result, Ok, Err, zero, suc, ◌+◌, ◌<◌, ◌≤◌, List, [], ◌∷◌, ◌++◌, length, map, reverse, get_or, set, refl, sym, ap, ◌∙◌, subst, append_assoc, arith, Some, inl, inr, replicate, All, cases_lt, All-map, All-replicate, All-set, none-some, slice_get, IfErr, IsErrAnd}
+use Rattle.rbg_base.proofs.Common.{◌≡◌, ◌≢◌, ℕ, false, Result, Ok, Err, zero, suc, ◌+◌, ◌<◌, ◌≤◌, List, [], ◌∷◌, ◌++◌, length, map, reverse, get_or, set, refl, sym, ap, ◌∙◌, subst, append_assoc, arith, Some, inl, inr, replicate, All, cases_lt, All-map, All-nil, All-replicate, All-set, none-some, slice_get, IfErr, IsErrAnd}
 use Rattle.std.proofs.lemmas.List.{map-append, length-map, length-replicate, length-set, reverse-append}
 use Rattle.rbg_hall.proofs.Places.{there_within}
 use Rattle.rbg_wire.specs.Streams.{incomplete}
@@ -60,7 +60,7 @@ fault_there (one ∷ tables) (suc index) table there = fault_there tables index 
 pub lines_ready : (tables : ℕ) (lines : List LinePhase) → lines ≡ replicate lines_in_all new_line → AreReady tables lines
 lines_ready tables lines are = record {
   count = ap length are ∙ length-replicate lines_in_all new_line;
-  each = subst (All (IsReady tables)) (sym are) (All-replicate (IsReady tables) lines_in_all new_line (record { limit = refl; empty = refl }));
+  each = subst (All (IsReady tables)) (sym are) (All-replicate (IsReady tables) lines_in_all new_line (record { limit = refl; empty = refl; short = (omega arith, All-nil (λ byte. byte ≢ 0)) }));
 }
 
 -- a ready line in the place of another one, where there are as many tables as before

@@ -2,11 +2,15 @@
 use Rattle.std.proofs.Common.{◌≡◌, ℕ, ◌+◌, ◌<◌, List, [], ◌∷◌, ◌++◌, length, map, set, get_or, refl, sym, ap, ◌∙◌, subst, append-nil, arith, Some, None, slice_get, if◌then◌else◌, flat_map}
 use Rattle.std.proofs.lemmas.Bool.{eq-eqb, ne_eqb}
 use Rattle.rbg_wire.specs.declared.message.Reason.TheVariants.{NoSeat}
-use Rattle.rbg_wire.specs.Streams.{Item, Rest, Stream, cut, with_bytes, without_first}
+use Rattle.std.proofs.lemmas.List.Elements.{All-tail}
+use Rattle.rbg_wire.specs.Streams.{IsRest, Item, Rest, Stream, cut, with_bytes, without_first}
+use Rattle.rbg_wire.specs.Whole.{IsCutAlone}
+use Rattle.rbg_wire.proofs.LawLemmas.{rests}
+use Rattle.rbg_wire.proofs.WholeLemmas.{cut_again}
 use Rattle.rbg_match.specs.Limits.{message_limit}
 use Rattle.rbg_hall.proofs.TableCommon.{joins, arrives, says, leaves, refusal_to, told_to}
 use Rattle.rbg_hall.specs.Kept.{KeptHearsFor, KeptState}
-use Rattle.rbg_hall.proofs.Common.{First, refused_for, refused_first, silent, asks, over, asking, line_cut, heard_first, heard_of_piece, heard_of_end, requested, is_for, IsFirst, IsTaken, HearsEachFor, PieceHeard, TablesHear, IsEmptied}
+use Rattle.rbg_hall.proofs.Common.{First, refused_for, refused_first, silent, asks, over, asking, line_cut, heard_first, heard_of_piece, heard_of_end, requested, is_for, IsFirst, IsTaken, HearsEachFor, PieceHeard, TablesHear, AreWhole, IsEmptied}
 use Rattle.rbg_hall.specs.declared.hearing.First.TheVariants.{Nothing, Table, NoTable}
 use Rattle.rbg_hall.specs.internal.First as first
 use Rattle.rbg_hall.proofs.Taking.{first_and_others, nothing_first, nothing_heard, one_heard}
@@ -17,13 +21,26 @@ pub record IsFed (rest : Rest) (bytes : List ℕ) (fed : Stream) : Type 0 where
   pub limit : fed.limit ≡ message_limit
   pub items : fed.items ≡ (cut message_limit rest bytes).items
   pub left : fed.rest ≡ (cut message_limit rest bytes).rest
+  pub was_short : IsRest message_limit rest
 
 pub fed_by : (inbox fed : Stream) (bytes : List ℕ) → IsEmptied inbox → fed ≡ with_bytes inbox bytes → IsFed inbox.rest bytes fed
 fed_by inbox fed bytes emptied is = record {
   limit = ap (λ (s : Stream). s.limit) is ∙ emptied.limit;
   items = ap (λ (s : Stream). s.items) is ∙ (λ i. emptied.empty i ++ (cut (emptied.limit i) inbox.rest bytes).items);
   left = ap (λ (s : Stream). s.rest) is ∙ ap (λ limit. (cut limit inbox.rest bytes).rest) emptied.limit;
+  was_short = emptied.short;
 }
+
+-- what it completed are items of a stream, and so are those after the first; what is left is a rest
+pub fed_whole : {rest : Rest} {bytes : List ℕ} {fed : Stream} → IsFed rest bytes fed → AreWhole fed.items
+fed_whole {rest} {bytes} fills = subst AreWhole (sym fills.items) (cut_again message_limit rest bytes fills.was_short)
+
+pub others_whole : {rest : Rest} {bytes : List ℕ} {fed new : Stream} {item : Item} → IsFed rest bytes fed → (taken : IsTaken fed new item) → AreWhole new.items
+others_whole {item = item} fills taken =
+    subst AreWhole (sym (ap (λ (s : Stream). s.items) taken.left)) (All-tail (IsCutAlone message_limit) item taken.others (subst AreWhole taken.items (fed_whole fills)))
+
+pub fed_short : {rest : Rest} {bytes : List ℕ} {fed : Stream} (left : Rest) → IsFed rest bytes fed → left ≡ fed.rest → IsRest message_limit left
+fed_short {rest} {bytes} left fills is = subst (IsRest message_limit) (sym (is ∙ fills.left)) (rests message_limit rest bytes fills.was_short)
 
 -- the first item is taken
 pub taken_first : (old new : Stream) (item : Item) → Some item ≡ slice_get old.items 0 → new ≡ without_first old → IsTaken old new item
@@ -84,6 +101,7 @@ pub ready_nothing : {rest : Rest} {bytes : List ℕ} {fed new : Stream} → IsFe
 ready_nothing fills request = record {
   limit = ap (λ (s : Stream). s.limit) request.same ∙ fills.limit;
   empty = ap (λ (s : Stream). s.items) request.same ∙ request.empty;
+  short = fed_short _ fills (ap (λ (s : Stream). s.rest) request.same);
 }
 
 pub ready_table : {rest : Rest} {bytes : List ℕ} {fed taken joined : Stream} {tables index : ℕ} → IsFed rest bytes fed → AsksTable tables fed taken index → joined ≡ record taken { items = [] } → IsEmptied joined × (index < tables)
@@ -91,8 +109,19 @@ ready_table fills request left = (
   record {
     limit = ap (λ (s : Stream). s.limit) left ∙ ap (λ (s : Stream). s.limit) request.taken.left ∙ fills.limit;
     empty = ap (λ (s : Stream). s.items) left;
+    short = fed_short _ fills (ap (λ (s : Stream). s.rest) left ∙ ap (λ (s : Stream). s.rest) request.taken.left);
   },
   request.within,
+)
+
+pub ready_again : {rest : Rest} {bytes : List ℕ} {fed left : Stream} {tables index : ℕ} → IsFed rest bytes fed → index < tables → left ≡ record fed { items = [] } → IsEmptied left × (index < tables)
+ready_again fills within empties = (
+  record {
+    limit = ap (λ (s : Stream). s.limit) empties ∙ fills.limit;
+    empty = ap (λ (s : Stream). s.items) empties;
+    short = fed_short _ fills (ap (λ (s : Stream). s.rest) empties);
+  },
+  within,
 )
 
 -- A line that has completed nothing, or asks for no table: no table hears it.

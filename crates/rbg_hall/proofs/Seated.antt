@@ -1,11 +1,11 @@
 -- A table's match begins and plays.
-use Rattle.std.proofs.Common.{◌≡◌, ℕ, List, [], ◌++◌, replicate, ◌∷◌, Vec, Option, Some, None, Result, Ok, Err, true, false, ◌+◌, set, refl, sym, ap, ◌∙◌, subst, slice_get, is_none, OnOk, IfOk}
+use Rattle.std.proofs.Common.{◌≡◌, ℕ, List, [], replicate, Option, Some, None, Result, Ok, Err, true, false, ◌+◌, set, refl, sym, ap, ◌∙◌, subst, slice_get, is_none, OnOk}
 use Rattle.rbg_match.proofs.Common.{AbstractEvent, moment_alone, piece, end_of_stream, MatchState, Steps, seats_of, message_limit}
 use Rattle.rbg_rules.specs.Meaning.{AbstractGame}
 use Rattle.std.proofs.lemmas.Bool.{true≢false}
 use Rattle.rbg_wire.specs.declared.message.Reason.TheVariants.{OutOfTurn, NoSeat}
 use Rattle.rbg_wire.proofs.Common.{Item, whole_item}
-use Rattle.rbg_hall.proofs.TableCommon.{TableState, Plays, Hears, clock, joins, arrives, says, leaves, waits, ticks, sits, is_full, comes_late, stays, waits_too, stirs, is_early, frees, goes, is_moment_for_none, is_unheard, goes_unheard, SitsAt, HasNoSeat, AreTaken, refusal_to, to_lines, told_to, PlaysFor, BeginsFor, IsFirstAt, HearsFor, StepsFor}
+use Rattle.rbg_hall.proofs.TableCommon.{TableState, Hears, clock, joins, arrives, says, leaves, waits, ticks, sits, is_full, comes_late, stays, waits_too, stirs, is_early, frees, goes, is_moment_for_none, is_unheard, goes_unheard, SitsAt, HasNoSeat, AreTaken, refusal_to, to_lines, told_to, PlaysFor, BeginsFor, IsFirstAt, HearsFor, StepsFor}
 use Rattle.rbg_hall.specs.Tables as tables
 use Rattle.rbg_hall.specs.internal.TableHearing as hearing
 use Rattle.rbg_hall.proofs.Telling.{told_to-none}
@@ -82,11 +82,11 @@ begun_by old middle new index line at before after idle nowhere first is taken b
 pub early : (table : TableState) (line at index : ℕ) (item : Item) (before after : List (List ℕ)) → is_none table.begun ≡ true → SitsAt table line index → after ≡ told_to before (refusal_to line OutOfTurn) → HearsFor table (says line at item) table before after
 early table line at index item before after idle seat queued = record { told = refusal_to line OutOfTurn; hears = is_early index seat (none_by table.begun idle); queued = queued }
 
-pub outgoing : (old new : TableState) (line at index : ℕ) (item : Item) (bytes : List ℕ) (before after : List (List ℕ)) → is_none old.begun ≡ false → SitsAt old line index → bytes ≡ whole_item message_limit item → PlaysFor old (piece (index + 1) at bytes) new before after → HearsFor old (says line at item) new before after
-outgoing old new line at index item bytes before after begun seat whole (hearing.nothing none) = absurd (true≢false (ap is_none (sym none) ∙ begun))
-outgoing old new line at index item bytes before after begun seat whole (hearing.plays told play queued) = record {
+pub outgoing : (old new : TableState) (line at index : ℕ) (item : Item) (before after : List (List ℕ)) → is_none old.begun ≡ false → SitsAt old line index → PlaysFor old (piece (index + 1) at (whole_item message_limit item)) new before after → HearsFor old (says line at item) new before after
+outgoing old new line at index item before after begun seat (hearing.nothing none) = absurd (true≢false (ap is_none (sym none) ∙ begun))
+outgoing old new line at index item before after begun seat (hearing.plays told play queued) = record {
   told = told;
-  hears = tables.plays index seat (subst (λ text. Plays old (piece (index + 1) at text) new told) whole play);
+  hears = tables.plays index seat play;
   queued = queued;
 }
 
@@ -111,8 +111,3 @@ unheard_item table line at item queues none = record { told = []; hears = is_unh
 
 pub unheard_end : (table : TableState) (line at : ℕ) (queues : List (List ℕ)) → HasNoSeat table line → HearsFor table (leaves line at) table queues queues
 unheard_end table line at queues none = record { told = []; hears = goes_unheard none; queued = sym (told_to-none queues) }
-
--- the piece of an item that is too long
-pub whole_so : {E : Type 0} {Z : Type 0} (result : Result (Vec ℕ Z) E) (bytes : List ℕ) → bytes ≡ replicate 4097 120 → IfOk result (λ whole. whole.items ≡ bytes ++ 0 ∷ []) → IfOk result (λ whole. whole.items ≡ replicate 4097 120 ++ 0 ∷ [])
-whole_so (Ok whole) bytes is holds = holds ∙ ap (λ front. front ++ 0 ∷ []) is
-whole_so (Err error) bytes is holds = tt

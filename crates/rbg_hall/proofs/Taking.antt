@@ -1,12 +1,14 @@
 -- The items that a line has completed are heard in turn.
 use Rattle.rbg_base.proofs.Common.{◌≡◌, ℕ, List, [], ◌∷◌, ◌++◌, map, drop, refl, sym, ap, ◌∙◌, subst, Some, None, append_assoc, none-some, slice_get, OnErr, Result, Ok, Err}
 use Rattle.std.proofs.lemmas.List.{map-append, append-nil}
+use Rattle.std.proofs.lemmas.List.Elements.{All-head, All-tail}
+use Rattle.rbg_wire.specs.Whole.{IsCutAlone}
+use Rattle.rbg_match.specs.Limits.{message_limit}
 use Rattle.rbg_wire.specs.Streams.{Item, Stream, without_first}
-use Rattle.rbg_hall.specs.declared.queues.Mark.{Mark}
-use Rattle.rbg_hall.proofs.TableCommon.{OwnEvent, says, told_to, undone}
+use Rattle.rbg_hall.proofs.TableCommon.{OwnEvent, QueueState, says, told_to}
 use Rattle.rbg_hall.proofs.Telling.{told_to-append, told_to-none}
 use Rattle.rbg_hall.specs.Kept.{KeptFails, KeptHearsFor, KeptState}
-use Rattle.rbg_hall.proofs.Common.{Becomes, KeptHearsEach, HearsEachFor}
+use Rattle.rbg_hall.proofs.Common.{AreWhole, Becomes, KeptHearsEach, HearsEachFor}
 use Rattle.rbg_hall.specs.Ledgers as ledgers
 
 -- a list that has a first element, or none
@@ -59,41 +61,51 @@ stops_after hears (ledgers.heard each) = ledgers.heard (both_run (ledgers.more l
 stops_after hears (ledgers.stopped each fails) = ledgers.stopped (both_run (ledgers.more ledgers.none hears.hears) each) fails
 
 -- Some items were taken and heard.
-pub record HasTaken {W : Type 0} (tells : W → List ℕ → Type 0) (start : KeptState W) (line at : ℕ) (from : Stream) (before : List (List ℕ)) (marked : List Mark) (table : KeptState W) (inbox : Stream) (after : List (List ℕ)) (marks : List Mark) : Type 0 where
+pub record HasTaken {W : Type 0} (tells : W → List ℕ → Type 0) (start : KeptState W) (line at : ℕ) (from : Stream) (before : QueueState) (table : KeptState W) (inbox : Stream) (after : QueueState) : Type 0 where
   pub taken : List Item
   pub parts : from.items ≡ taken ++ inbox.items
   pub same_rest : inbox.rest ≡ from.rest
   pub same_limit : inbox.limit ≡ from.limit
-  pub hears : HearsEachFor tells start (map (says line at) taken) table before after
-  pub same : undone after marks ≡ undone before marked
+  pub hears : HearsEachFor tells start (map (says line at) taken) table before.queued after.queued
+  pub same : after.committed ≡ before.committed
 
-pub none_taken : {W : Type 0} (tells : W → List ℕ → Type 0) (start : KeptState W) (line at : ℕ) (from : Stream) (before : List (List ℕ)) (marks : List Mark) → HasTaken tells start line at from before marks start from before marks
-none_taken tells start line at from before marks = record {
+pub none_taken : {W : Type 0} (tells : W → List ℕ → Type 0) (start : KeptState W) (line at : ℕ) (from : Stream) (before : QueueState) → HasTaken tells start line at from before start from before
+none_taken tells start line at from before = record {
   taken = [];
   parts = refl;
   same_rest = refl;
   same_limit = refl;
-  hears = nothing_heard tells start before;
+  hears = nothing_heard tells start before.queued;
   same = refl;
 }
 
-pub one_taken : {W : Type 0} {tells : W → List ℕ → Type 0} {start table next : KeptState W} {line at : ℕ} {from inbox : Stream} {before between after : List (List ℕ)} {marked marks later : List Mark} (left : Stream) (item : Item) → HasTaken tells start line at from before marked table inbox between marks → slice_get inbox.items 0 ≡ Some item → left ≡ without_first inbox → KeptHearsFor tells table (says line at item) next between after → undone after later ≡ undone between marks → HasTaken tells start line at from before marked next left after later
+-- the items that are left, and the first of them, are among those from which some were taken
+left_whole : (taken left : List Item) → AreWhole (taken ++ left) → AreWhole left
+left_whole [] left whole = whole
+left_whole (item ∷ taken) left whole = left_whole taken left (All-tail (IsCutAlone message_limit) item (taken ++ left) whole)
+
+pub next_whole : {W : Type 0} {tells : W → List ℕ → Type 0} {start table : KeptState W} {line at : ℕ} {from inbox : Stream} {before after : QueueState} (item : Item) → HasTaken tells start line at from before table inbox after → AreWhole from.items → slice_get inbox.items 0 ≡ Some item → IsCutAlone message_limit item
+next_whole {inbox = inbox} item has whole first =
+    let left : AreWhole inbox.items = left_whole has.taken inbox.items (subst AreWhole has.parts whole) in
+    All-head (IsCutAlone message_limit) item (drop 1 inbox.items) (subst AreWhole (first_and_others inbox.items item first) left)
+
+pub one_taken : {W : Type 0} {tells : W → List ℕ → Type 0} {start table next : KeptState W} {line at : ℕ} {from inbox : Stream} {before between after : QueueState} (left : Stream) (item : Item) → HasTaken tells start line at from before table inbox between → slice_get inbox.items 0 ≡ Some item → left ≡ without_first inbox → KeptHearsFor tells table (says line at item) next between.queued after.queued → after.committed ≡ between.committed → HasTaken tells start line at from before next left after
 one_taken {tells = tells} {start} {next = next} {line} {at} {from} {inbox} {before} {after = after} left item has first loses hears same = record {
   taken = has.taken ++ item ∷ [];
   parts = rw (loses, append_assoc) (has.parts ∙ ap (λ items. has.taken ++ items) (first_and_others inbox.items item first));
   same_rest = rw loses has.same_rest;
   same_limit = rw loses has.same_limit;
-  hears = subst (λ events. HearsEachFor tells start events next before after) (sym (map-append (says line at) has.taken (item ∷ []))) (one_heard has.hears hears);
+  hears = subst (λ events. HearsEachFor tells start events next before.queued after.queued) (sym (map-append (says line at) has.taken (item ∷ []))) (one_heard has.hears hears);
   same = same ∙ has.same;
 }
 
-pub all_taken : {W : Type 0} {tells : W → List ℕ → Type 0} {start table : KeptState W} {line at : ℕ} {from inbox : Stream} {before after : List (List ℕ)} {marked marks : List Mark} (has : HasTaken tells start line at from before marked table inbox after marks) → slice_get inbox.items 0 ≡ None → HearsEachFor tells start (map (says line at) from.items) table before after × (inbox ≡ record from { items = [] })
+pub all_taken : {W : Type 0} {tells : W → List ℕ → Type 0} {start table : KeptState W} {line at : ℕ} {from inbox : Stream} {before after : QueueState} (has : HasTaken tells start line at from before table inbox after) → slice_get inbox.items 0 ≡ None → HearsEachFor tells start (map (says line at) from.items) table before.queued after.queued × (inbox ≡ record from { items = [] })
 all_taken {tells = tells} {start} {table} {line} {at} {from} {inbox} {before} {after} has nothing =
     let empty : inbox.items ≡ [] = nothing_first inbox.items nothing in
     let all : has.taken ≡ from.items = sym (has.parts ∙ ap (λ items. has.taken ++ items) empty ∙ append-nil has.taken) in (
-      subst (λ items. HearsEachFor tells start (map (says line at) items) table before after) all has.hears,
+      subst (λ items. HearsEachFor tells start (map (says line at) items) table before.queued after.queued) all has.hears,
       λ i. record { limit = has.same_limit i; items = empty i; rest = has.same_rest i },
     )
 
-pub stops_taking : {W : Type 0} {tells : W → List ℕ → Type 0} {start table next : KeptState W} {line at : ℕ} {from inbox : Stream} {before after : List (List ℕ)} {marked marks : List Mark} {event : OwnEvent} → HasTaken tells start line at from before marked table inbox after marks → KeptFails tells table event next → Becomes tells start next
+pub stops_taking : {W : Type 0} {tells : W → List ℕ → Type 0} {start table next : KeptState W} {line at : ℕ} {from inbox : Stream} {before after : QueueState} {event : OwnEvent} → HasTaken tells start line at from before table inbox after → KeptFails tells table event next → Becomes tells start next
 stops_taking has fails = ledgers.stopped has.hears.hears fails

@@ -3,7 +3,7 @@ use Rattle.rbg_base.proofs.Common.{◌≡◌, ◌≢◌, ℕ, zero, suc, ◌+◌
 use Rattle.std.proofs.lemmas.List.{append-nil, set-get_or, get_or-set_same, get_or-map, map-set, length-map}
 use Rattle.std.proofs.lemmas.List.Concat.{flat_map-append}
 use Rattle.std.proofs.lemmas.Bool.{eq-eqb, ne_eqb}
-use Rattle.rbg_hall.proofs.TableCommon.{Telling, bytes_to, told_from, told_to, telling, told_on, to_lines, Mark, cut_back, undone}
+use Rattle.rbg_hall.proofs.TableCommon.{Telling, bytes_to, told_from, told_to, telling, told_on, to_lines, QueueMark, cut_back, undone}
 
 -- what one queue has, where each of them gets more by its number
 pub extended_at : (more : ℕ → List ℕ) (extended : ℕ → List (List ℕ) → List (List ℕ)) → ((number : ℕ) (queue : List ℕ) (others : List (List ℕ)) → extended number (queue ∷ others) ≡ (queue ++ more number) ∷ extended (suc number) others) → (first : ℕ) (queues : List (List ℕ)) (index : ℕ) → index < length queues → get_or (extended first queues) index [] ≡ get_or queues index [] ++ more (first + index)
@@ -88,7 +88,7 @@ pub told_to-past : (queues : List (List ℕ)) (line : ℕ) (bytes : List ℕ) �
 told_to-past queues line bytes past = told_from-past 0 queues line bytes (omega (arith, past))
 
 -- the last mark is undone first
-pub undone-more : (queues : List (List ℕ)) (marks : List Mark) (mark : Mark) → undone queues (marks ++ mark ∷ []) ≡ undone (cut_back queues mark) marks
+pub undone-more : (queues : List (List ℕ)) (marks : List QueueMark) (mark : QueueMark) → undone queues (marks ++ mark ∷ []) ≡ undone (cut_back queues mark) marks
 undone-more queues [] mark = refl
 undone-more queues (first ∷ marks) mark = ap (λ later. cut_back later first) (undone-more queues marks mark)
 
@@ -98,12 +98,12 @@ set-set (z ∷ xs) zero x y = refl
 set-set (z ∷ xs) (suc i) x y = ap (λ others. z ∷ others) (set-set xs i x y)
 
 -- a queue that grew is cut back to what it was
-pub cut_back-grown : (queues : List (List ℕ)) (mark : Mark) (bytes : List ℕ) → mark.line < length queues → mark.len ≡ length (get_or queues mark.line []) → cut_back (set queues mark.line (get_or queues mark.line [] ++ bytes)) mark ≡ queues
+pub cut_back-grown : (queues : List (List ℕ)) (mark : QueueMark) (bytes : List ℕ) → mark.line < length queues → mark.len ≡ length (get_or queues mark.line []) → cut_back (set queues mark.line (get_or queues mark.line [] ++ bytes)) mark ≡ queues
 cut_back-grown queues mark bytes within is =
     let had : List ℕ = get_or queues mark.line [] in
     rw (get_or-set_same queues mark.line (had ++ bytes) [] within, is, take-append_seam had bytes, set-set queues mark.line (had ++ bytes) had) (set-get_or queues mark.line [])
 
-pub cut_back-same : (queues : List (List ℕ)) (mark : Mark) → mark.line < length queues → mark.len ≡ length (get_or queues mark.line []) → cut_back queues mark ≡ queues
+pub cut_back-same : (queues : List (List ℕ)) (mark : QueueMark) → mark.line < length queues → mark.len ≡ length (get_or queues mark.line []) → cut_back queues mark ≡ queues
 cut_back-same queues mark within is =
     let had : List ℕ = get_or queues mark.line [] in
     let whole : take (length had) had ≡ had = ap (λ xs. take (length had) xs) (sym (append-nil had)) ∙ take-append_seam had [] in
@@ -127,21 +127,21 @@ module _ {Z : Type 0} (queues : List (Vec ℕ Z)) (line : ℕ) (was is : Vec ℕ
   appended bytes (Ok done) more = grown bytes more ∙ sym (told_to-one (map items queues) line bytes within_all)
   appended bytes (Err error) more = tt
 
-  cut_again : (mark : Mark) → mark.line ≡ line → mark.len ≡ length was.items → (bytes : List ℕ) → is.items ≡ was.items ++ bytes → cut_back (map items (set queues line is)) mark ≡ map items queues
+  cut_again : (mark : QueueMark) → mark.line ≡ line → mark.len ≡ length was.items → (bytes : List ℕ) → is.items ≡ was.items ++ bytes → cut_back (map items (set queues line is)) mark ≡ map items queues
   cut_again mark at len bytes more =
       let whole : set (map items queues) line (get_or (map items queues) line [] ++ bytes) ≡ set (map items queues) mark.line (get_or (map items queues) mark.line [] ++ bytes) = rw at refl in
       let there : mark.line < length (map items queues) = rw at within_all in
       let long : mark.len ≡ length (get_or (map items queues) mark.line []) = rw (at, had) len in
       ap (λ one. cut_back one mark) (grown bytes more ∙ whole) ∙ cut_back-grown (map items queues) mark bytes there long
 
-  pub append_undone : {E : Type 0} (bytes : List ℕ) (result : Result (Unit {0}) E) (marks news : List Mark) (mark : Mark) → is.items ≡ (if is_ok result then was.items ++ bytes else was.items) → mark.line ≡ line → mark.len ≡ length was.items → news ≡ marks ++ mark ∷ [] → undone (map items (set queues line is)) news ≡ undone (map items queues) marks
+  pub append_undone : {E : Type 0} (bytes : List ℕ) (result : Result (Unit {0}) E) (marks news : List QueueMark) (mark : QueueMark) → is.items ≡ (if is_ok result then was.items ++ bytes else was.items) → mark.line ≡ line → mark.len ≡ length was.items → news ≡ marks ++ mark ∷ [] → undone (map items (set queues line is)) news ≡ undone (map items queues) marks
   append_undone bytes (Ok done) marks news mark more at len pushed =
       ap (undone (map items (set queues line is))) pushed ∙ undone-more (map items (set queues line is)) marks mark ∙ ap (λ one. undone one marks) (cut_again mark at len bytes more)
   append_undone bytes (Err error) marks news mark more at len pushed =
       ap (undone (map items (set queues line is))) pushed ∙ undone-more (map items (set queues line is)) marks mark ∙ ap (λ one. undone one marks) (cut_again mark at len [] (more ∙ sym (append-nil was.items)))
 
   -- one is cut back
-  pub cut_one : (mark : Mark) → mark.line ≡ line → is.items ≡ take mark.len was.items → map items (set queues line is) ≡ cut_back (map items queues) mark
+  pub cut_one : (mark : QueueMark) → mark.line ≡ line → is.items ≡ take mark.len was.items → map items (set queues line is) ≡ cut_back (map items queues) mark
   cut_one mark at less =
       let same : set (map items queues) line (take mark.len (get_or (map items queues) line [])) ≡ cut_back (map items queues) mark = rw at refl in
       map-set items queues line is ∙ ap (λ one. set (map items queues) line one) (less ∙ ap (take mark.len) (sym had)) ∙ same

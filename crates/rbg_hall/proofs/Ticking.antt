@@ -1,8 +1,7 @@
 -- The tables of a hall hear in turn, or one of them hears.
 use Rattle.std.proofs.Common.{◌≡◌, ◌≢◌, ℕ, zero, suc, ◌+◌, ◌<◌, ◌≤◌, List, [], ◌∷◌, ◌++◌, length, get_or, set, refl, sym, ap, ◌∙◌, subst, append_assoc, append-nil, arith, flat_map}
 use Rattle.std.proofs.lemmas.List.{length-set}
-use Rattle.rbg_hall.specs.declared.queues.Mark.{Mark}
-use Rattle.rbg_hall.proofs.TableCommon.{OwnEvent, clock, Telling, told_to, undone}
+use Rattle.rbg_hall.proofs.TableCommon.{OwnEvent, QueueState, clock, Telling, told_to}
 use Rattle.rbg_hall.proofs.Telling.{told_to-append, told_to-none}
 use Rattle.rbg_hall.specs.Kept.{KeptFails, KeptHearsFor, KeptState}
 use Rattle.rbg_hall.proofs.Common.{Becomes, KeptHearsEach, EachKeptHears, HearsEachFor, TablesHear, TablesStop}
@@ -136,33 +135,33 @@ all_ticked {at = at} {olds = olds} number no_tick past = none_left at number old
 all_ticked number (one_tick hears ticked) past = hearing.more hears (all_ticked (suc number) ticked (omega arith))
 
 -- the middle of a loop over the tables
-pub record HaveTicked {W : Type 0} (tells : W → List ℕ → Type 0) (at count : ℕ) (olds news : List (KeptState W)) (before after : List (List ℕ)) (marked marks : List Mark) : Type 0 where
+pub record HaveTicked {W : Type 0} (tells : W → List ℕ → Type 0) (at count : ℕ) (olds news : List (KeptState W)) (before after : QueueState) : Type 0 where
   pub told : List (List Telling)
   pub ticked : Ticked tells at count olds news told
   pub same_count : length news ≡ length olds
-  pub queued : after ≡ told_to before (flat_map (λ one. one) told)
-  pub same : undone after marks ≡ undone before marked
+  pub queued : after.queued ≡ told_to before.queued (flat_map (λ one. one) told)
+  pub same : after.committed ≡ before.committed
 
-pub none_ticked : {W : Type 0} (tells : W → List ℕ → Type 0) (at : ℕ) (tables : List (KeptState W)) (queues : List (List ℕ)) (marks : List Mark) → HaveTicked tells at 0 tables tables queues queues marks marks
-none_ticked tells at tables queues marks = record { told = []; ticked = no_tick; same_count = refl; queued = sym (told_to-none queues); same = refl }
+pub none_ticked : {W : Type 0} (tells : W → List ℕ → Type 0) (at : ℕ) (tables : List (KeptState W)) (queues : QueueState) → HaveTicked tells at 0 tables tables queues queues
+none_ticked tells at tables queues = record { told = []; ticked = no_tick; same_count = refl; queued = sym (told_to-none queues.queued); same = refl }
 
 flat_last : (told : List (List Telling)) (first : List Telling) → flat_map (λ one. one) (told ++ first ∷ []) ≡ flat_map (λ one. one) told ++ first
 flat_last [] first = append-nil first
 flat_last (one ∷ told) first = ap (λ more. one ++ more) (flat_last told first) ∙ sym (append_assoc one (flat_map (λ other. other) told) first)
 
-pub one_ticked : {W : Type 0} {tells : W → List ℕ → Type 0} {at count : ℕ} {olds news : List (KeptState W)} {before between after : List (List ℕ)} {marked marks later : List Mark} (old new : KeptState W) → HaveTicked tells at count olds news before between marked marks → count < length news → old ≡ get_or news count old → KeptHearsFor tells old (clock at) new between after → undone after later ≡ undone between marks → HaveTicked tells at (count + 1) olds (set news count new) before after marked later
+pub one_ticked : {W : Type 0} {tells : W → List ℕ → Type 0} {at count : ℕ} {olds news : List (KeptState W)} {before between after : QueueState} (old new : KeptState W) → HaveTicked tells at count olds news before between → count < length news → old ≡ get_or news count old → KeptHearsFor tells old (clock at) new between.queued after.queued → after.committed ≡ between.committed → HaveTicked tells at (count + 1) olds (set news count new) before after
 one_ticked {tells = tells} {at} {count} {olds} {news} {before} old new have within found hears same = record {
   told = have.told ++ hears.outgoing ∷ [];
   ticked = subst (λ n. Ticked tells at n olds (set news count new) (have.told ++ hears.outgoing ∷ [])) (next count) (ticked_on old new hears.outgoing have.ticked within found (ledgers.more ledgers.none hears.hears));
   same_count = length-set news count new ∙ have.same_count;
-  queued = hears.queued ∙ ap (λ one. told_to one hears.outgoing) have.queued ∙ told_to-append before (flat_map (λ one. one) have.told) hears.outgoing ∙ ap (told_to before) (sym (flat_last have.told hears.outgoing));
+  queued = hears.queued ∙ ap (λ one. told_to one hears.outgoing) have.queued ∙ told_to-append before.queued (flat_map (λ one. one) have.told) hears.outgoing ∙ ap (told_to before.queued) (sym (flat_last have.told hears.outgoing));
   same = same ∙ have.same;
 }
   where
     next : (n : ℕ) → suc n ≡ n + 1
     next n = omega arith
 
-pub all_have : {W : Type 0} {tells : W → List ℕ → Type 0} {at count : ℕ} {olds news : List (KeptState W)} {before after : List (List ℕ)} {marked marks : List Mark} → HaveTicked tells at count olds news before after marked marks → length news ≤ count → TablesHear tells (λ (table : ℕ). clock at ∷ []) olds news before after
+pub all_have : {W : Type 0} {tells : W → List ℕ → Type 0} {at count : ℕ} {olds news : List (KeptState W)} {before after : QueueState} → HaveTicked tells at count olds news before after → length news ≤ count → TablesHear tells (λ (table : ℕ). clock at ∷ []) olds news before.queued after.queued
 all_have have past = record { told = have.told; tables = all_ticked 1 have.ticked past; queued = have.queued }
 
 -- no table hears anything, or one does, and something may fail there
@@ -181,5 +180,5 @@ ticked_stops : {W : Type 0} {tells : W → List ℕ → Type 0} {at count : ℕ}
 ticked_stops {olds = olds} old new no_tick found fails = one_stops olds 0 old new found (stops_at fails)
 ticked_stops old new (one_tick hears ticked) found fails = hearing.more (ledgers.heard hears) (ticked_stops old new ticked found fails)
 
-pub ticking_stops : {W : Type 0} {tells : W → List ℕ → Type 0} {at count : ℕ} {olds news : List (KeptState W)} {before after : List (List ℕ)} {marked marks : List Mark} (old new : KeptState W) → HaveTicked tells at count olds news before after marked marks → old ≡ get_or news count old → KeptFails tells old (clock at) new → TablesStop tells olds (set news count new)
+pub ticking_stops : {W : Type 0} {tells : W → List ℕ → Type 0} {at count : ℕ} {olds news : List (KeptState W)} {before after : QueueState} (old new : KeptState W) → HaveTicked tells at count olds news before after → old ≡ get_or news count old → KeptFails tells old (clock at) new → TablesStop tells olds (set news count new)
 ticking_stops old new have found fails = ticked_stops old new have.ticked found fails

@@ -9,6 +9,7 @@ use crate::{Hall, HallEvent};
 use rbg_base::Memory;
 use rbg_match::Event;
 use rbg_serving::{Engine, Log};
+use std::alloc::Global;
 
 /// What a hall hears where the line of a seat is heard. Seat 1 is line 0.
 fn hall_event(event: Event<'_>) -> HallEvent<'_>
@@ -64,6 +65,10 @@ impl<W: Log> Engine for Hall<W> {
 
     fn due(&self) -> Option<u64> {
         Hall::due(self)
+    }
+
+    fn allocator(&self) -> Global {
+        Hall::allocator(self)
     }
 
     fn bytes(outbox: &HallOut, line: usize) -> &[u8] {

@@ -1,6 +1,5 @@
 //! What a hall does at an event.
 ghost use Rattle.std.specs.Prelude.{◌≡◌, length, option_copied, OnErr, OnOk};
-ghost use Rattle.rbg_hall.specs.Undoing.{undone};
 ghost use Rattle.rbg_hall.specs.Events.{event_of};
 ghost use Rattle.rbg_hall.specs.internal.Hearing.{KeptStops, KeptWrites, said_by};
 ghost use Rattle.rbg_hall.specs.internal.Parts.{AreReady};
@@ -9,35 +8,34 @@ use crate::HallEvent;
 use crate::hearing::{hear_end, hear_piece, tick};
 use crate::kept_table::KeptTable;
 use crate::line::{LinePhase, Speaker};
-use crate::queues::{HallOut, Mark};
+use crate::queues::Queues;
 use rbg_base::Memory;
 use rbg_serving::Log;
 use std::mem::replace;
 
-/// Hears an event. The marks tell how long the queues were.
+/// Hears an event.
 pub(crate) fn hear_event<W: Log>(
     tables: &mut [KeptTable<W>],
     lines: &mut [LinePhase],
     event: HallEvent<'_>,
-    out: &mut HallOut,
-    marks: &mut Vec<Mark>,
+    out: &mut Queues,
 ) -> Result<(), Memory>
     requires { AreReady (length tables.old) lines.old }
     ensures writes { OnOk result (KeptWrites W.told tables.old lines.old (event_of event.entry)
-        tables.new lines.new out.old out.new) }
+        tables.new lines.new out.old.queued out.new.queued) }
     ensures stops { OnErr result (KeptStops W.told tables.old tables.new) }
     ensures ready { AreReady (length tables.new) lines.new }
     ensures count { length tables.new ≡ length tables.old }
-    ensures undone { undone out.new marks.new.items ≡ undone out.old marks.old.items }
+    ensures committed { out.new.committed ≡ out.old.committed }
 {
     match event {
         HallEvent::Piece { line, at, bytes } => {
-            hear_line(tables, lines, Speaker { line, at }, Some(bytes), out, marks)
+            hear_line(tables, lines, Speaker { line, at }, Some(bytes), out)
         }
         HallEvent::Ended { line, at } => {
-            hear_line(tables, lines, Speaker { line, at }, None, out, marks)
+            hear_line(tables, lines, Speaker { line, at }, None, out)
         }
-        HallEvent::Tick { at } => tick(tables, at, out, marks),
+        HallEvent::Tick { at } => tick(tables, at, out),
     }
 }
 
@@ -47,16 +45,15 @@ fn hear_line<W: Log>(
     lines: &mut [LinePhase],
     by: Speaker,
     bytes: Option<&[u8]>,
-    out: &mut HallOut,
-    marks: &mut Vec<Mark>,
+    out: &mut Queues,
 ) -> Result<(), Memory>
     requires { AreReady (length tables.old) lines.old }
     ensures writes { OnOk result (KeptWrites W.told tables.old lines.old (said_by by.line by.at (option_copied bytes.entry))
-        tables.new lines.new out.old out.new) }
+        tables.new lines.new out.old.queued out.new.queued) }
     ensures stops { OnErr result (KeptStops W.told tables.old tables.new) }
     ensures ready { AreReady (length tables.new) lines.new }
     ensures count { length tables.new ≡ length tables.old }
-    ensures undone { undone out.new marks.new.items ≡ undone out.old marks.old.items }
+    ensures committed { out.new.committed ≡ out.old.committed }
 {
     let index = by.line as usize;
     if index >= lines.len() {
@@ -65,10 +62,10 @@ fn hear_line<W: Log>(
     let one = replace(&mut lines[index], LinePhase::Over);
     match bytes {
         Some(bytes) => {
-            let next = hear_piece(tables, one, by, bytes, out, marks)?;
+            let next = hear_piece(tables, one, by, bytes, out)?;
             lines[index] = next;
             Ok(())
         }
-        None => hear_end(tables, one, by, out, marks),
+        None => hear_end(tables, one, by, out),
     }
 }

@@ -122,11 +122,11 @@ impl<W: Log> Hall<W> {
         if self.failed {
             return Err(Memory);
         }
-        let mut marks = Vec::new(*self.tables.allocator());
-        let heard = hear_event(&mut self.tables, &mut self.lines, event, out, &mut marks);
+        out.queues.begin();
+        let heard = hear_event(&mut self.tables, &mut self.lines, event, &mut out.queues);
         if heard.is_err() {
             self.failed = true;
-            out.take_back(&mut marks);
+            out.queues.roll_back();
         }
         heard
     }
@@ -177,8 +177,8 @@ impl<W: Log> Hall<W> {
         first_due(&self.tables)
     }
 
-    /// The allocator of the hall.
-    pub(crate) fn allocator(&self) -> Global {
+    /// The allocator from which the hall takes memory.
+    pub fn allocator(&self) -> Global {
         *self.tables.allocator()
     }
 

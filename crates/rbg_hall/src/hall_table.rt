@@ -2,29 +2,28 @@
 ghost use Rattle.std.specs.Prelude.{◌≡◌, ◌↔◌, ◌+◌, ◌<◌, ◌^◌, ◌++◌, ◌∷◌, [], ℕ, Option, Some, None, false, length, slice_get, slice_set, is_none, option_map, IfNone, IfOk, IfSome, IsTrue, OnOk};
 ghost use Rattle.rbg_wire.specs.Bytes.{LacksByte};
 ghost use Rattle.rbg_match.specs.Config.{IsWithinLimits};
-ghost use Rattle.rbg_match.specs.Inputs.{event_of};
+ghost use Rattle.rbg_match.specs.Arrivals.{arrival_of};
 ghost use Rattle.rbg_match.specs.Matches.{HasHistory};
 ghost use Rattle.rbg_wire.specs.Inboxes.{item_of};
-ghost use Rattle.rbg_wire.specs.Whole.{whole_item};
+ghost use Rattle.rbg_wire.specs.Whole.{IsCutAlone};
 ghost use Rattle.rbg_match.specs.Limits.{message_limit};
 ghost use Rattle.rbg_hall.specs.Tables.{AreTaken, HasNoSeat, HasSeat, SitsAt, joins, leaves, new_table, says};
-ghost use Rattle.rbg_hall.specs.TableHearing.{HearsFor, input_of};
-ghost use Rattle.rbg_hall.specs.internal.TableHearing.{BeginsFor, PlaysFor, IsFirstAt};
-ghost use Rattle.rbg_hall.specs.Undoing.{undone};
+ghost use Rattle.rbg_hall.specs.TableHearing.{HearsFor, SaysWhole, input_of, line_in};
+ghost use Rattle.rbg_hall.specs.internal.Running.{ComesWhole};
+ghost use Rattle.rbg_hall.specs.internal.TableHearing.{BeginsFor, PlaysFor, IsFirstAt, IsSeatOf};
 
 use crate::input::TableInput;
-use crate::queues::{HallOut, Mark};
+use crate::line::Speaker;
+use crate::queues::Queues;
 use crate::running::Running;
 use rbg_base::Memory;
-use rbg_match::{Config, Event, Match};
+use rbg_match::{Arrival, Config, Event, Match};
 use rbg_rules::Game;
+use rbg_serving::Opening;
 use rbg_wire::{Reason, Took};
 use std::alloc::Global;
 use std::marker::Model;
 use std::mem::replace;
-
-/// The most bytes of a line's message, not counting its zero byte.
-pub const MESSAGE_LIMIT: usize = 4096;
 
 /// How far a table is.
 #[derive(Drop)]
@@ -38,8 +37,8 @@ pub(crate) enum Phase {
 }
 
 /// A table of a hall: its seats, and its match once all of them are taken. Contracts see its state. What it hears is all
-/// or nothing for the caller, who takes back what a refusal left in the queues, and asks the table no more.
-pub struct HallTable {
+/// or nothing for the caller, who rolls back what a refusal left in the queues, and asks the table no more.
+pub(crate) struct HallTable {
     text: Vec<u8>,
     config: Config,
     /// The line on each seat, seat 1 first.
@@ -82,7 +81,7 @@ impl Drop for HallTable {
 
 impl HallTable {
     /// A table where nobody sits, for a match of this game, whose text it is. No byte of the text may be zero.
-    pub fn new(
+    pub(crate) fn new(
         alloc: Global,
         game: Game,
         text: Vec<u8>,
@@ -102,7 +101,7 @@ impl HallTable {
     }
 
     /// The match, once it has begun.
-    pub fn begun(&self) -> Option<&Match>
+    pub(crate) fn begun(&self) -> Option<&Match>
         ensures is { option_map (λ playing. playing.now) result ≡ self.now.begun }
         ensures history { IfSome result (λ playing. playing.now.failed ≡ false → HasHistory playing.now) }
     {
@@ -114,54 +113,65 @@ impl HallTable {
     }
 
     /// The config of the match.
-    pub fn config(&self) -> Config
+    pub(crate) fn config(&self) -> Config
         ensures { result ≡ self.now.config }
     {
         self.config
     }
 
     /// Whether a line has a seat.
-    pub fn has_seat(&self, line: u64) -> bool
+    pub(crate) fn has_seat(&self, line: u64) -> bool
         ensures { IsTrue result ↔ HasSeat self.now line }
     {
         self.seat_of(line).is_some()
     }
 
-    /// Hears an event of the clock, or of a line that asked for this table, and queues what it tells its lines. The marks
-    /// tell how long the queues were. A line that has a seat gets no other one; one without a seat is heard only
-    /// when it asks for one.
-    pub fn hear(
+    /// The index of the seat of the line from which an input comes, if it has one.
+    pub(crate) fn seat_for(&self, input: TableInput<'_>) -> Option<usize>
+        ensures { IsSeatOf self.now (line_in (input_of input.entry)) result }
+    {
+        match line_in(input) {
+            Some(line) => self.seat_of(line),
+            None => None,
+        }
+    }
+
+    /// Hears an event of the clock, or of a line that asked for this table, and queues what it tells its lines. The seat is
+    /// that of the line. A line that has a seat gets no other one; one without a seat is heard only when it asks for one.
+    pub(crate) fn hear(
         &mut self,
         input: TableInput<'_>,
-        out: &mut HallOut,
-        marks: &mut Vec<Mark>,
+        seat: Option<usize>,
+        out: &mut Queues,
     ) -> Result<(), Memory>
-        ensures hears { OnOk result (HearsFor self.old (input_of input.entry) self.new out.old out.new) }
-        ensures undone { undone out.new marks.new.items ≡ undone out.old marks.old.items }
+        requires seat { IsSeatOf self.old (line_in (input_of input)) seat }
+        requires whole { SaysWhole (input_of input) }
+        ensures hears { OnOk result (HearsFor self.old (input_of input.entry) self.new out.old.queued out.new.queued) }
+        ensures committed { out.new.committed ≡ out.old.committed }
     {
         match input {
-            TableInput::Clock { at } => self.play(Event::Tick { at }, out, marks),
-            TableInput::Joins { line, at } => match self.seat_of(line) {
+            TableInput::Clock { at } => self.play(Arrival::Plain(Event::Tick { at }), out),
+            TableInput::Joins { line, at } => match seat {
                 Some(_) => Ok(()),
-                None => self.seat(line, at, out, marks),
+                None => self.seat(line, at, out),
             },
-            TableInput::Arrives { line, at } => match self.seat_of(line) {
-                Some(_) => self.play(Event::Tick { at }, out, marks),
+            TableInput::Arrives { at, .. } => match seat {
+                Some(_) => self.play(Arrival::Plain(Event::Tick { at }), out),
                 None => Ok(()),
             },
-            TableInput::Says { line, at, took } => match self.seat_of(line) {
-                Some(index) => self.hear_item(index, line, at, took, out, marks),
+            TableInput::Says { line, at, took } => match seat {
+                Some(index) => self.hear_item(index, Speaker { line, at }, took, out),
                 None => Ok(()),
             },
-            TableInput::Leaves { line, at } => match self.seat_of(line) {
-                Some(index) => self.leave_seat(index, at, out, marks),
+            TableInput::Leaves { at, .. } => match seat {
+                Some(index) => self.leave_seat(index, at, out),
                 None => Ok(()),
             },
         }
     }
 
     /// Whether the match has not begun.
-    pub fn is_waiting(&self) -> bool
+    pub(crate) fn is_waiting(&self) -> bool
         ensures { result ≡ is_none self.now.begun }
     {
         match &self.phase {
@@ -172,7 +182,7 @@ impl HallTable {
     }
 
     /// The index of the seat on which a line sits. It is that of the next number.
-    pub fn seat_of(&self, line: u64) -> Option<usize>
+    pub(crate) fn seat_of(&self, line: u64) -> Option<usize>
         ensures sits { IfSome result (SitsAt self.now line) }
         ensures small { IfSome result (λ index. index + 1 < 2 ^ 64) }
         ensures none { IfNone result (HasNoSeat self.now line) }
@@ -180,45 +190,35 @@ impl HallTable {
         first_index(&self.seats, Some(line))
     }
 
-    /// The match handles an event, if it has begun.
-    fn play(
-        &mut self,
-        event: Event<'_>,
-        out: &mut HallOut,
-        marks: &mut Vec<Mark>,
-    ) -> Result<(), Memory>
-        ensures plays { OnOk result (PlaysFor self.old (event_of event.entry) self.new out.old out.new) }
-        ensures undone { undone out.new marks.new.items ≡ undone out.old marks.old.items }
+    /// The match handles what arrives, if it has begun.
+    fn play(&mut self, arrival: Arrival<'_>, out: &mut Queues) -> Result<(), Memory>
+        requires { ComesWhole arrival }
+        ensures plays { OnOk result (PlaysFor self.old (arrival_of arrival.entry) self.new out.old.queued out.new.queued) }
+        ensures committed { out.new.committed ≡ out.old.committed }
     {
         match &mut self.phase {
-            Phase::Begun(running) => running.step(event, &self.seats, out, marks),
+            Phase::Begun(running) => running.step(arrival, &self.seats, out),
             Phase::Waiting(_) => Ok(()),
             Phase::Failed => Ok(()),
         }
     }
 
     /// A line that has no seat asks for one, and gets the first that is free. With the last one the match begins.
-    fn seat(
-        &mut self,
-        line: u64,
-        at: u64,
-        out: &mut HallOut,
-        marks: &mut Vec<Mark>,
-    ) -> Result<(), Memory>
+    fn seat(&mut self, line: u64, at: u64, out: &mut Queues) -> Result<(), Memory>
         requires { HasNoSeat self.old line }
-        ensures hears { OnOk result (HearsFor self.old (joins line at) self.new out.old out.new) }
-        ensures undone { undone out.new marks.new.items ≡ undone out.old marks.old.items }
+        ensures hears { OnOk result (HearsFor self.old (joins line at) self.new out.old.queued out.new.queued) }
+        ensures committed { out.new.committed ≡ out.old.committed }
     {
         if !self.is_waiting() {
-            return out.refuse(line, Reason::NoSeat, marks);
+            return out.refuse(line, Reason::NoSeat);
         }
         let Some(index) = self.free_seat() else {
-            return out.refuse(line, Reason::NoSeat, marks);
+            return out.refuse(line, Reason::NoSeat);
         };
         self.take_seat(index, Some(line));
         match self.free_seat() {
             Some(_) => Ok(()),
-            None => self.begin(at, out, marks),
+            None => self.begin(at, out),
         }
     }
 
@@ -239,24 +239,19 @@ impl HallTable {
     }
 
     /// The match begins.
-    fn begin(&mut self, at: u64, out: &mut HallOut, marks: &mut Vec<Mark>) -> Result<(), Memory>
-        ensures begins { OnOk result (BeginsFor self.old at self.new out.old out.new) }
-        ensures undone { undone out.new marks.new.items ≡ undone out.old marks.old.items }
+    fn begin(&mut self, at: u64, out: &mut Queues) -> Result<(), Memory>
+        ensures begins { OnOk result (BeginsFor self.old at self.new out.old.queued out.new.queued) }
+        ensures committed { out.new.committed ≡ out.old.committed }
     {
-        let alloc = *marks.allocator();
         let Phase::Waiting(game) = replace(&mut self.phase, Phase::Failed) else {
             return Err(Memory);
         };
-        let running = Running::open(
-            alloc,
-            game,
-            &self.text,
-            self.config,
-            at,
-            &self.seats,
-            out,
-            marks,
-        )?;
+        let opening = Opening {
+            text: &self.text,
+            config: self.config,
+            now: at,
+        };
+        let running = Running::open(game, opening, &self.seats, out)?;
         self.phase = Phase::Begun(running);
         Ok(())
     }
@@ -265,42 +260,35 @@ impl HallTable {
     fn hear_item(
         &mut self,
         index: usize,
-        line: u64,
-        at: u64,
+        by: Speaker,
         took: Took<'_>,
-        out: &mut HallOut,
-        marks: &mut Vec<Mark>,
+        out: &mut Queues,
     ) -> Result<(), Memory>
-        requires sits { SitsAt self.old line index }
+        requires sits { SitsAt self.old by.line index }
         requires small { index + 1 < 2 ^ 64 }
-        ensures hears { OnOk result (HearsFor self.old (says line at (item_of took.entry)) self.new out.old out.new) }
-        ensures undone { undone out.new marks.new.items ≡ undone out.old marks.old.items }
+        requires whole { IsCutAlone message_limit (item_of took) }
+        ensures hears { OnOk result (HearsFor self.old (says by.line by.at (item_of took.entry)) self.new
+            out.old.queued out.new.queued) }
+        ensures committed { out.new.committed ≡ out.old.committed }
     {
         if self.is_waiting() {
-            return out.refuse(line, Reason::OutOfTurn, marks);
+            return out.refuse(by.line, Reason::OutOfTurn);
         }
-        let whole = whole_piece(*marks.allocator(), took)?;
-        let piece = Event::Piece {
+        let item = Arrival::Item {
             seat: index as u64 + 1,
-            at,
-            bytes: &whole,
+            at: by.at,
+            took,
         };
-        self.play(piece, out, marks)
+        self.play(item, out)
     }
 
     /// The end of the line on this seat frees the seat before the match begins, and goes to the match afterwards.
-    fn leave_seat(
-        &mut self,
-        index: usize,
-        at: u64,
-        out: &mut HallOut,
-        marks: &mut Vec<Mark>,
-    ) -> Result<(), Memory>
+    fn leave_seat(&mut self, index: usize, at: u64, out: &mut Queues) -> Result<(), Memory>
         requires there { index < length self.old.seats }
         requires small { index + 1 < 2 ^ 64 }
         ensures hears { (line : ℕ) → SitsAt self.old line index →
-            OnOk result (HearsFor self.old (leaves line at) self.new out.old out.new) }
-        ensures undone { undone out.new marks.new.items ≡ undone out.old marks.old.items }
+            OnOk result (HearsFor self.old (leaves line at) self.new out.old.queued out.new.queued) }
+        ensures committed { out.new.committed ≡ out.old.committed }
     {
         if self.is_waiting() {
             self.take_seat(index, None);
@@ -310,7 +298,20 @@ impl HallTable {
             seat: index as u64 + 1,
             at,
         };
-        self.play(end, out, marks)
+        self.play(Arrival::Plain(end), out)
+    }
+}
+
+/// The line from which an input comes; none if it is of the clock.
+fn line_in(input: TableInput<'_>) -> Option<u64>
+    ensures { result ≡ line_in (input_of input.entry) }
+{
+    match input {
+        TableInput::Clock { .. } => None,
+        TableInput::Joins { line, .. } => Some(line),
+        TableInput::Arrives { line, .. } => Some(line),
+        TableInput::Says { line, .. } => Some(line),
+        TableInput::Leaves { line, .. } => Some(line),
     }
 }
 
@@ -326,22 +327,4 @@ fn first_index(seats: &[Option<u64>], wanted: Option<u64>) -> Option<usize>
         }
     }
     None
-}
-
-/// The bytes that complete this item alone.
-pub fn whole_piece(alloc: Global, took: Took<'_>) -> Result<Vec<u8>, Memory>
-    ensures { IfOk result (λ whole. whole.items ≡ whole_item message_limit (item_of took.entry)) }
-{
-    match took {
-        Took::Message(text) => with_zero(Vec::from_slice(alloc, text)?),
-        Took::TooLong => with_zero(vec![in alloc; b'x'; MESSAGE_LIMIT + 1]?),
-    }
-}
-
-/// These bytes, and a zero byte after them.
-fn with_zero(mut bytes: Vec<u8>) -> Result<Vec<u8>, Memory>
-    ensures { IfOk result (λ whole. whole.items ≡ bytes.items ++ 0 ∷ []) }
-{
-    bytes.push(0)?;
-    Ok(bytes)
 }

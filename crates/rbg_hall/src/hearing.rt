@@ -1,19 +1,18 @@
 //! How the tables of a hall hear a line and the clock.
 ghost use Rattle.std.specs.Prelude.{◌≡◌, ◌<◌, ◌∷◌, [], length, map, IfOk, OnErr, OnOk};
-ghost use Rattle.rbg_hall.specs.TableHearing.{input_of};
+ghost use Rattle.rbg_hall.specs.TableHearing.{SaysWhole, input_of};
 ghost use Rattle.rbg_hall.specs.Tables.{clock, says};
-ghost use Rattle.rbg_hall.specs.Undoing.{undone};
 ghost use Rattle.rbg_hall.specs.Ledgers.{Becomes};
 ghost use Rattle.rbg_hall.specs.Lines.{silent};
 ghost use Rattle.rbg_hall.specs.Own.{heard_of_end};
 ghost use Rattle.rbg_hall.specs.internal.First.{IsFirst};
 ghost use Rattle.rbg_hall.specs.internal.Hearing.{HearsEachFor, PieceHeard, TablesHear, TablesStop};
-ghost use Rattle.rbg_hall.specs.internal.Parts.{IsEmptied, IsReady, line_of};
+ghost use Rattle.rbg_hall.specs.internal.Parts.{AreWhole, IsEmptied, IsReady, line_of};
 
 use crate::input::TableInput;
 use crate::kept_table::KeptTable;
 use crate::line::{LinePhase, Speaker};
-use crate::queues::{HallOut, Mark};
+use crate::queues::Queues;
 use crate::request::table_of;
 use rbg_base::Memory;
 use rbg_serving::Log;
@@ -48,14 +47,14 @@ fn say_each<W: Log>(
     table: &mut KeptTable<W>,
     inbox: &mut Inbox,
     by: Speaker,
-    out: &mut HallOut,
-    marks: &mut Vec<Mark>,
+    out: &mut Queues,
 ) -> Result<(), Memory>
+    requires { AreWhole inbox.old.items }
     ensures hears { OnOk result (HearsEachFor W.told table.old (map (says by.line by.at) inbox.old.items) table.new
-        out.old out.new) }
+        out.old.queued out.new.queued) }
     ensures stops { OnErr result (Becomes W.told table.old table.new) }
     ensures inbox { OnOk result (inbox.new ≡ record inbox.old { items = [] }) }
-    ensures undone { undone out.new marks.new.items ≡ undone out.old marks.old.items }
+    ensures committed { out.new.committed ≡ out.old.committed }
 {
     while let Some(took) = inbox.take() {
         let says = TableInput::Says {
@@ -63,7 +62,7 @@ fn say_each<W: Log>(
             at: by.at,
             took,
         };
-        table.hear(says, out, marks)?;
+        table.hear(says, out)?;
     }
     Ok(())
 }
@@ -74,17 +73,18 @@ fn hear_from<W: Log>(
     first: TableInput<'_>,
     inbox: &mut Inbox,
     by: Speaker,
-    out: &mut HallOut,
-    marks: &mut Vec<Mark>,
+    out: &mut Queues,
 ) -> Result<(), Memory>
+    requires first { SaysWhole (input_of first) }
+    requires items { AreWhole inbox.old.items }
     ensures hears { OnOk result (HearsEachFor W.told table.old (input_of first.entry ∷ map (says by.line by.at) inbox.old.items)
-        table.new out.old out.new) }
+        table.new out.old.queued out.new.queued) }
     ensures stops { OnErr result (Becomes W.told table.old table.new) }
     ensures inbox { OnOk result (inbox.new ≡ record inbox.old { items = [] }) }
-    ensures undone { undone out.new marks.new.items ≡ undone out.old marks.old.items }
+    ensures committed { out.new.committed ≡ out.old.committed }
 {
-    table.hear(first, out, marks)?;
-    say_each(table, inbox, by, out, marks)
+    table.hear(first, out)?;
+    say_each(table, inbox, by, out)
 }
 
 /// A piece of a line none of whose messages has come.
@@ -93,22 +93,21 @@ fn hear_first<W: Log>(
     mut inbox: Inbox,
     by: Speaker,
     bytes: &[u8],
-    out: &mut HallOut,
-    marks: &mut Vec<Mark>,
+    out: &mut Queues,
 ) -> Result<LinePhase, Memory>
     requires { IsEmptied inbox }
     ensures hears { IfOk result (λ next. PieceHeard W.told tables.old (silent inbox.rest) by.line by.at bytes.now tables.new
-        (line_of next) out.old out.new) }
+        (line_of next) out.old.queued out.new.queued) }
     ensures stops { OnErr result (TablesStop W.told tables.old tables.new) }
     ensures ready { IfOk result (IsReady (length tables.old)) }
     ensures count { length tables.new ≡ length tables.old }
-    ensures undone { undone out.new marks.new.items ≡ undone out.old marks.old.items }
+    ensures committed { out.new.committed ≡ out.old.committed }
 {
     inbox.feed(bytes)?;
     match take_first(&mut inbox, tables.len()) {
         First::Nothing => Ok(LinePhase::Silent(inbox)),
         First::NoTable => {
-            out.refuse(by.line, Reason::NoSeat, marks)?;
+            out.refuse(by.line, Reason::NoSeat)?;
             Ok(LinePhase::Over)
         }
         First::Table(index) => {
@@ -116,7 +115,7 @@ fn hear_first<W: Log>(
                 line: by.line,
                 at: by.at,
             };
-            hear_from(&mut tables[index], joins, &mut inbox, by, out, marks)?;
+            hear_from(&mut tables[index], joins, &mut inbox, by, out)?;
             Ok(LinePhase::Asks { index, inbox })
         }
     }
@@ -128,26 +127,25 @@ pub(crate) fn hear_piece<W: Log>(
     one: LinePhase,
     by: Speaker,
     bytes: &[u8],
-    out: &mut HallOut,
-    marks: &mut Vec<Mark>,
+    out: &mut Queues,
 ) -> Result<LinePhase, Memory>
     requires { IsReady (length tables.old) one }
     ensures hears { IfOk result (λ next. PieceHeard W.told tables.old (line_of one) by.line by.at bytes.now tables.new
-        (line_of next) out.old out.new) }
+        (line_of next) out.old.queued out.new.queued) }
     ensures stops { OnErr result (TablesStop W.told tables.old tables.new) }
     ensures ready { IfOk result (IsReady (length tables.old)) }
     ensures count { length tables.new ≡ length tables.old }
-    ensures undone { undone out.new marks.new.items ≡ undone out.old marks.old.items }
+    ensures committed { out.new.committed ≡ out.old.committed }
 {
     match one {
-        LinePhase::Silent(inbox) => hear_first(tables, inbox, by, bytes, out, marks),
+        LinePhase::Silent(inbox) => hear_first(tables, inbox, by, bytes, out),
         LinePhase::Asks { index, mut inbox } => {
             inbox.feed(bytes)?;
             let arrives = TableInput::Arrives {
                 line: by.line,
                 at: by.at,
             };
-            hear_from(&mut tables[index], arrives, &mut inbox, by, out, marks)?;
+            hear_from(&mut tables[index], arrives, &mut inbox, by, out)?;
             Ok(LinePhase::Asks { index, inbox })
         }
         LinePhase::Over => Ok(LinePhase::Over),
@@ -159,15 +157,14 @@ pub(crate) fn hear_end<W: Log>(
     tables: &mut [KeptTable<W>],
     one: LinePhase,
     by: Speaker,
-    out: &mut HallOut,
-    marks: &mut Vec<Mark>,
+    out: &mut Queues,
 ) -> Result<(), Memory>
     requires { IsReady (length tables.old) one }
     ensures hears { OnOk result (TablesHear W.told (λ table. heard_of_end table (line_of one) by.line by.at) tables.old tables.new
-        out.old out.new) }
+        out.old.queued out.new.queued) }
     ensures stops { OnErr result (TablesStop W.told tables.old tables.new) }
     ensures count { length tables.new ≡ length tables.old }
-    ensures undone { undone out.new marks.new.items ≡ undone out.old marks.old.items }
+    ensures committed { out.new.committed ≡ out.old.committed }
 {
     match one {
         LinePhase::Silent(_) => Ok(()),
@@ -176,7 +173,7 @@ pub(crate) fn hear_end<W: Log>(
                 line: by.line,
                 at: by.at,
             };
-            tables[index].hear(leaves, out, marks)
+            tables[index].hear(leaves, out)
         }
         LinePhase::Over => Ok(()),
     }
@@ -186,16 +183,15 @@ pub(crate) fn hear_end<W: Log>(
 pub(crate) fn tick<W: Log>(
     tables: &mut [KeptTable<W>],
     at: u64,
-    out: &mut HallOut,
-    marks: &mut Vec<Mark>,
+    out: &mut Queues,
 ) -> Result<(), Memory>
-    ensures hears { OnOk result (TablesHear W.told (λ table. clock at ∷ []) tables.old tables.new out.old out.new) }
+    ensures hears { OnOk result (TablesHear W.told (λ table. clock at ∷ []) tables.old tables.new out.old.queued out.new.queued) }
     ensures stops { OnErr result (TablesStop W.told tables.old tables.new) }
     ensures count { length tables.new ≡ length tables.old }
-    ensures undone { undone out.new marks.new.items ≡ undone out.old marks.old.items }
+    ensures committed { out.new.committed ≡ out.old.committed }
 {
     for index in 0..tables.len() {
-        tables[index].hear(TableInput::Clock { at }, out, marks)?;
+        tables[index].hear(TableInput::Clock { at }, out)?;
     }
     Ok(())
 }

@@ -4,7 +4,7 @@ use rbg_wire::Took;
 
 /// What a table hears. Lines are numbered from 0, and moments are in milliseconds.
 #[derive(Clone, Copy)]
-pub enum TableInput<'a> {
+pub(crate) enum TableInput<'a> {
     /// The clock shows a moment.
     Clock { at: u64 },
     /// The first message of a line asks for this table.

@@ -1,17 +1,16 @@
 //! A table with the log of its match.
 ghost use Rattle.std.specs.Prelude.{◌≡◌, ◌↔◌, [], false, option_copied, option_map, IfSome, IsTrue, OnErr, OnOk};
-ghost use Rattle.rbg_hall.specs.TableHearing.{input_of};
+ghost use Rattle.rbg_hall.specs.TableHearing.{SaysWhole, input_of};
 ghost use Rattle.rbg_hall.specs.Tables.{HasSeat};
-ghost use Rattle.rbg_hall.specs.Undoing.{undone};
 ghost use Rattle.rbg_match.specs.Matches.{HasHistory};
 ghost use Rattle.rbg_hall.specs.Kept.{KeptFails, KeptHearsFor, given, no_log, standing_after, told_log, works};
 ghost use Rattle.rbg_hall.specs.LogLedgers.{HasLog, IsNewTable};
 
-use crate::Standing;
 use crate::hall_table::HallTable;
 use crate::input::TableInput;
 use crate::noting::hear_kept;
-use crate::queues::{HallOut, Mark};
+use crate::queues::Queues;
+use crate::standing::Standing;
 use rbg_base::Memory;
 use rbg_match::Match;
 use rbg_serving::{Log, WriteError};
@@ -21,7 +20,7 @@ use std::marker::Model;
 /// A table, and the log of its match if there is one. Contracts see the table's state, the log, and how things stand. As
 /// long as all works, the log is that of the table's match.
 #[derive(Drop)]
-pub struct KeptTable<W: Log> {
+pub(crate) struct KeptTable<W: Log> {
     table: HallTable,
     log: Option<W>,
     /// The line at hand.
@@ -51,7 +50,7 @@ impl<W: Log> Model for KeptTable<W> {
 
 impl<W: Log> KeptTable<W> {
     /// A table with no log.
-    pub fn new(alloc: Global, table: HallTable) -> KeptTable<W>
+    pub(crate) fn new(alloc: Global, table: HallTable) -> KeptTable<W>
         requires { IsNewTable table }
         ensures { result ≡ record { table = table; ledger = no_log } }
     {
@@ -64,7 +63,7 @@ impl<W: Log> KeptTable<W> {
     }
 
     /// Gives the match of the table an empty log, unless the match has begun or something has failed.
-    pub fn keep(&mut self, log: W)
+    pub(crate) fn keep(&mut self, log: W)
         requires { W.told log [] }
         ensures { self.new ≡ record self.old { ledger = given self.old.table.begun self.old.ledger log } }
     {
@@ -74,7 +73,7 @@ impl<W: Log> KeptTable<W> {
     }
 
     /// The log, if there is one and nothing has failed.
-    pub fn log(&self) -> Option<&W>
+    pub(crate) fn log(&self) -> Option<&W>
         ensures is { option_copied result ≡ told_log self.now.ledger }
         ensures has { IfSome result (λ log. HasLog W.told self.now.table log.now) }
     {
@@ -85,7 +84,7 @@ impl<W: Log> KeptTable<W> {
     }
 
     /// Whether the log failed.
-    pub fn has_log_failed(&self) -> bool
+    pub(crate) fn has_log_failed(&self) -> bool
         ensures { IsTrue result ↔ (self.now.ledger.standing ≡ Standing.LogFailed) }
     {
         matches!(self.standing, Standing::LogFailed)
@@ -103,7 +102,7 @@ impl<W: Log> KeptTable<W> {
     }
 
     /// The match, once it has begun.
-    pub fn begun(&self) -> Option<&Match>
+    pub(crate) fn begun(&self) -> Option<&Match>
         ensures is { option_map (λ playing. playing.now) result ≡ self.now.table.begun }
         ensures history { IfSome result (λ playing. playing.now.failed ≡ false → HasHistory playing.now) }
     {
@@ -111,37 +110,25 @@ impl<W: Log> KeptTable<W> {
     }
 
     /// Whether a line has a seat.
-    pub fn has_seat(&self, line: u64) -> bool
+    pub(crate) fn has_seat(&self, line: u64) -> bool
         ensures { IsTrue result ↔ HasSeat self.now.table line }
     {
         self.table.has_seat(line)
     }
 
     /// Hears an event of the clock, or of a line that asked for this table, and queues what it tells its lines. What the
-    /// match is handed of it is written before. The marks tell how long the queues were. Once something has failed nothing
-    /// is heard.
-    pub fn hear(
-        &mut self,
-        input: TableInput<'_>,
-        out: &mut HallOut,
-        marks: &mut Vec<Mark>,
-    ) -> Result<(), Memory>
-        ensures hears { OnOk result (KeptHearsFor W.told self.old (input_of input.entry) self.new out.old out.new) }
+    /// match is handed of it is written before. Once something has failed nothing is heard.
+    pub(crate) fn hear(&mut self, input: TableInput<'_>, out: &mut Queues) -> Result<(), Memory>
+        requires { SaysWhole (input_of input) }
+        ensures hears { OnOk result (KeptHearsFor W.told self.old (input_of input.entry) self.new out.old.queued out.new.queued) }
         ensures fails { OnErr result (KeptFails W.told self.old (input_of input.entry) self.new) }
-        ensures undone { undone out.new marks.new.items ≡ undone out.old marks.old.items }
+        ensures committed { out.new.committed ≡ out.old.committed }
     {
         if !self.works() {
             return Err(Memory);
         }
         self.standing = Standing::OutOfMemory;
-        let heard = hear_kept(
-            &mut self.table,
-            input,
-            &mut self.log,
-            &mut self.line,
-            out,
-            marks,
-        );
+        let heard = hear_kept(&mut self.table, input, &mut self.log, &mut self.line, out);
         match heard {
             Ok(()) => {
                 self.standing = Standing::Works;

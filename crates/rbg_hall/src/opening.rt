@@ -6,11 +6,12 @@ ghost use Rattle.rbg_hall.specs.Openings.{AreLoaded};
 ghost use Rattle.rbg_hall.specs.internal.Parts.{AreNew, HaveLimits, IsFaulty, new_kept, new_tables};
 
 use crate::Table;
-use crate::hall_table::{HallTable, MESSAGE_LIMIT};
+use crate::hall_table::HallTable;
 use crate::kept_table::KeptTable;
 use crate::line::LinePhase;
 use crate::queues::LINES;
 use rbg_base::Memory;
+use rbg_match::MESSAGE_LIMIT;
 use rbg_serving::Log;
 use rbg_wire::Inbox;
 use std::alloc::Global;

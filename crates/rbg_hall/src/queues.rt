@@ -2,7 +2,7 @@
 ghost use Rattle.std.specs.Prelude.{◌≡◌, ◌<◌, ℕ, List, [], replicate, slice_index_or, IfOk, OnOk, length};
 ghost use Rattle.rbg_hall.specs.TableLimits.{lines_in_all};
 ghost use Rattle.rbg_hall.specs.Tellings.{refusal_to, telling, to_lines, told_on, told_to};
-ghost use Rattle.rbg_hall.specs.Undoing.{bytes_in, cut_back, undone};
+ghost use Rattle.rbg_hall.specs.Undoing.{at_rest, bytes_in, cut_back, undone};
 
 use rbg_base::Memory;
 use rbg_match::Outbox;
@@ -15,98 +15,119 @@ pub const LINES: usize = 128;
 
 /// How long the queue of a line was.
 #[derive(Clone, Copy)]
-pub struct Mark {
+pub(crate) struct QueueMark {
     pub line: usize,
     pub len: usize,
 }
 
-/// The bytes that were queued for each line. Lines are numbered from 0. Contracts see the list of the lines' bytes.
+/// The bytes that were queued for each line, as a transaction: what was queued since it began can be taken back. Lines are
+/// numbered from 0. Contracts see what is queued for each line, and what was committed when the transaction began.
 #[derive(Drop)]
-pub struct HallOut {
-    queues: Vec<Vec<u8>>,
+pub(crate) struct Queues {
+    bytes: Vec<Vec<u8>>,
+    /// How long queues were before they grew, since the transaction began.
+    marks: Vec<QueueMark>,
 }
 
-impl Model for HallOut {
-    ghost use Rattle.std.specs.Prelude.{◌≡◌, ℕ, List, length, map};
+impl Model for Queues {
+    ghost use Rattle.std.specs.Prelude.{◌≡◌, length};
+    ghost use Rattle.rbg_hall.specs.Undoing.{QueueState, bytes_in, undone};
 
-    ghost Value = { List (List ℕ) };
+    ghost Value = { QueueState };
 
-    ghost view = { λ o. map (λ queue. queue.items) o.queues.items };
+    ghost view = { λ q. record {
+      queued = bytes_in q.bytes.items;
+      committed = undone (bytes_in q.bytes.items) q.marks.items;
+    } };
 
     ghost use Rattle.rbg_hall.specs.TableLimits.{lines_in_all};
 
-    ghost invariant = { λ o. length o.queues.items ≡ lines_in_all };
+    ghost invariant = { λ q. length q.bytes.items ≡ lines_in_all };
 }
 
-impl HallOut {
+impl Queues {
     /// Queues with nothing in them.
-    pub fn new(alloc: Global) -> Result<HallOut, Memory>
-        ensures { IfOk result (λ out. out ≡ replicate lines_in_all []) }
+    fn new(alloc: Global) -> Result<Queues, Memory>
+        ensures { IfOk result (λ queues. queues ≡ at_rest (replicate lines_in_all [])) }
     {
-        let mut queues = Vec::with_capacity(alloc, LINES)?;
+        let mut bytes = Vec::with_capacity(alloc, LINES)?;
         for _ in 0..LINES {
-            queues.push(Vec::new(alloc))?;
+            bytes.push(Vec::new(alloc))?;
         }
-        Ok(HallOut { queues })
+        Ok(Queues {
+            bytes,
+            marks: Vec::new(alloc),
+        })
+    }
+
+    /// The allocator of the queues.
+    pub(crate) fn allocator(&self) -> Global {
+        *self.bytes.allocator()
     }
 
     /// How many lines there are.
-    pub fn lines(&self) -> usize
-        ensures all { result ≡ length self.now }
+    fn lines(&self) -> usize
+        ensures all { result ≡ length self.now.queued }
         ensures as_many { result ≡ lines_in_all }
     {
-        self.queues.len()
+        self.bytes.len()
     }
 
     /// All bytes that were queued for a line; none for a line above the last.
-    pub fn bytes(&self, line: u64) -> &[u8]
-        ensures { result.now ≡ slice_index_or self.now line [] }
+    fn of_line(&self, line: u64) -> &[u8]
+        ensures { result.now ≡ slice_index_or self.now.queued line [] }
     {
         if line < LINES as u64 {
-            return self.queues[line as usize].as_slice();
+            return self.bytes[line as usize].as_slice();
         }
         &[]
     }
 
-    /// Queues bytes for a line, and marks how long its queue was.
-    pub(crate) fn tell(
-        &mut self,
-        line: u64,
-        bytes: &[u8],
-        marks: &mut Vec<Mark>,
-    ) -> Result<(), Memory>
-        ensures told { OnOk result (self.new ≡ told_to self.old (telling line bytes.now)) }
-        ensures undone { undone self.new marks.new.items ≡ undone self.old marks.old.items }
+    /// Begins a transaction: what is queued now is committed.
+    pub(crate) fn begin(&mut self)
+        ensures { self.new ≡ at_rest self.old.queued }
     {
-        let index = line as usize;
-        if index >= self.queues.len() {
-            return Ok(());
-        }
-        append(&mut self.queues, index, bytes, marks)
+        self.marks.clear();
     }
 
-    /// Tells a line that its message is refused, and marks how long its queue was.
-    pub fn refuse(&mut self, line: u64, reason: Reason, marks: &mut Vec<Mark>) -> Result<(), Memory>
-        ensures told { OnOk result (self.new ≡ told_to self.old (refusal_to line reason)) }
-        ensures undone { undone self.new marks.new.items ≡ undone self.old marks.old.items }
+    /// Takes back what was queued since the transaction began.
+    pub(crate) fn roll_back(&mut self)
+        ensures { self.new ≡ at_rest self.old.committed }
     {
-        let mut bytes = Vec::new(*marks.allocator());
+        while let Some(mark) = self.marks.pop() {
+            cut(&mut self.bytes, mark);
+        }
+    }
+
+    /// Queues bytes for a line.
+    fn tell(&mut self, line: u64, bytes: &[u8]) -> Result<(), Memory>
+        ensures told { OnOk result (self.new.queued ≡ told_to self.old.queued (telling line bytes.now)) }
+        ensures committed { self.new.committed ≡ self.old.committed }
+    {
+        let index = line as usize;
+        if index >= self.bytes.len() {
+            return Ok(());
+        }
+        append(&mut self.bytes, index, bytes, &mut self.marks)
+    }
+
+    /// Tells a line that its message is refused.
+    pub(crate) fn refuse(&mut self, line: u64, reason: Reason) -> Result<(), Memory>
+        ensures told { OnOk result (self.new.queued ≡ told_to self.old.queued (refusal_to line reason)) }
+        ensures committed { self.new.committed ≡ self.old.committed }
+    {
+        let mut bytes = Vec::new(self.allocator());
         write_message(&Message::Refused { reason }, &mut bytes)?;
-        self.tell(line, &bytes, marks)
+        self.tell(line, &bytes)
     }
 
     /// Queues the bytes of a seat for the line on it, if there is one.
-    fn tell_seat(
-        &mut self,
-        seat: Option<u64>,
-        bytes: &[u8],
-        marks: &mut Vec<Mark>,
-    ) -> Result<(), Memory>
-        ensures told { OnOk result (self.new ≡ told_to self.old (told_on seat bytes.now)) }
-        ensures undone { undone self.new marks.new.items ≡ undone self.old marks.old.items }
+    fn tell_seat(&mut self, seat: Option<u64>, bytes: &[u8]) -> Result<(), Memory>
+        ensures told { OnOk result (self.new.queued ≡ told_to self.old.queued (told_on seat bytes.now)) }
+        ensures committed { self.new.committed ≡ self.old.committed }
     {
         match seat {
-            Some(line) => self.tell(line, bytes, marks),
+            Some(line) => self.tell(line, bytes),
             None => Ok(()),
         }
     }
@@ -116,26 +137,54 @@ impl HallOut {
         &mut self,
         seats: &[Option<u64>],
         outbox: &Outbox,
-        marks: &mut Vec<Mark>,
     ) -> Result<(), Memory>
         requires { length seats.now ≡ length outbox.now }
-        ensures told { OnOk result (self.new ≡ told_to self.old (to_lines seats.now outbox.now)) }
-        ensures undone { undone self.new marks.new.items ≡ undone self.old marks.old.items }
+        ensures told { OnOk result (self.new.queued ≡ told_to self.old.queued (to_lines seats.now outbox.now)) }
+        ensures committed { self.new.committed ≡ self.old.committed }
     {
         for (index, seat) in seats.iter().enumerate() {
-            self.tell_seat(*seat, outbox.bytes(index + 1), marks)?;
+            self.tell_seat(*seat, outbox.bytes(index + 1))?;
         }
         Ok(())
     }
+}
 
-    /// Takes back what was queued since the marks were made.
-    pub fn take_back(&mut self, marks: &mut Vec<Mark>)
-        ensures undone { self.new ≡ undone self.old marks.old.items }
-        ensures emptied { marks.new.items ≡ [] }
+/// The bytes that were queued for each line. Lines are numbered from 0. Contracts see the list of the lines' bytes.
+#[derive(Drop)]
+pub struct HallOut {
+    pub(crate) queues: Queues,
+}
+
+impl Model for HallOut {
+    ghost use Rattle.std.specs.Prelude.{ℕ, List};
+
+    ghost Value = { List (List ℕ) };
+
+    ghost view = { λ o. o.queues.queued };
+}
+
+impl HallOut {
+    /// Queues with nothing in them.
+    pub fn new(alloc: Global) -> Result<HallOut, Memory>
+        ensures { IfOk result (λ out. out ≡ replicate lines_in_all []) }
     {
-        while let Some(mark) = marks.pop() {
-            cut(&mut self.queues, mark);
-        }
+        let queues = Queues::new(alloc)?;
+        Ok(HallOut { queues })
+    }
+
+    /// How many lines there are.
+    pub fn lines(&self) -> usize
+        ensures all { result ≡ length self.now }
+        ensures as_many { result ≡ lines_in_all }
+    {
+        self.queues.lines()
+    }
+
+    /// All bytes that were queued for a line; none for a line above the last.
+    pub fn bytes(&self, line: u64) -> &[u8]
+        ensures { result.now ≡ slice_index_or self.now line [] }
+    {
+        self.queues.of_line(line)
     }
 }
 
@@ -144,7 +193,7 @@ fn append(
     queues: &mut [Vec<u8>],
     line: usize,
     bytes: &[u8],
-    marks: &mut Vec<Mark>,
+    marks: &mut Vec<QueueMark>,
 ) -> Result<(), Memory>
     requires { line < length queues.old }
     ensures told { OnOk result (bytes_in queues.new ≡ told_to (bytes_in queues.old) (telling line bytes.now)) }
@@ -152,7 +201,7 @@ fn append(
         ≡ undone (bytes_in queues.old) marks.old.items }
 {
     let queue = &mut queues[line];
-    let mark = Mark {
+    let mark = QueueMark {
         line,
         len: queue.len(),
     };
@@ -161,7 +210,7 @@ fn append(
 }
 
 /// Cuts the queue of a mark to what it was.
-fn cut(queues: &mut [Vec<u8>], mark: Mark)
+fn cut(queues: &mut [Vec<u8>], mark: QueueMark)
     ensures { bytes_in queues.new ≡ cut_back (bytes_in queues.old) mark }
 {
     if mark.line < queues.len() {

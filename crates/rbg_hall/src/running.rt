@@ -2,17 +2,16 @@
 ghost use Rattle.std.specs.Prelude.{◌≡◌, length, false, IfOk, OnOk};
 ghost use Rattle.rbg_wire.specs.Bytes.{LacksByte};
 ghost use Rattle.rbg_match.specs.Config.{IsWithinLimits};
-ghost use Rattle.rbg_match.specs.Inputs.{event_of};
+ghost use Rattle.rbg_match.specs.Arrivals.{arrival_of};
 ghost use Rattle.rbg_match.specs.Matches.{HasHistory};
 ghost use Rattle.rbg_match.specs.PlayingOn.{seats_of};
-ghost use Rattle.rbg_hall.specs.internal.Running.{OpensFor, StepsFor};
-ghost use Rattle.rbg_hall.specs.Undoing.{undone};
+ghost use Rattle.rbg_hall.specs.internal.Running.{ComesWhole, OpensFor, StepsFor};
 
-use crate::queues::{HallOut, Mark};
+use crate::queues::Queues;
 use rbg_base::Memory;
-use rbg_match::{Config, Event, MAX_SEATS, Match, Outbox};
+use rbg_match::{Arrival, MAX_SEATS, Match, Outbox};
 use rbg_rules::Game;
-use std::alloc::Global;
+use rbg_serving::Opening;
 use std::marker::Model;
 
 /// A match that has begun. Contracts see the match.
@@ -41,47 +40,45 @@ impl Model for Running {
 impl Running {
     /// Opens a match, and passes on what it says to the lines on its seats.
     pub(crate) fn open(
-        alloc: Global,
         game: Game,
-        text: &[u8],
-        config: Config,
-        at: u64,
+        opening: Opening<'_>,
         seats: &[Option<u64>],
-        out: &mut HallOut,
-        marks: &mut Vec<Mark>,
+        out: &mut Queues,
     ) -> Result<Running, Memory>
-        requires no_zero { LacksByte 0 text.now }
-        requires limits { IsWithinLimits config }
+        requires no_zero { LacksByte 0 opening.text.now }
+        requires limits { IsWithinLimits opening.config }
         requires seats { length seats.now ≡ seats_of game }
         ensures opens { IfOk result (λ opened.
-            OpensFor game text.now config at opened seats.now out.old out.new) }
-        ensures undone { undone out.new marks.new.items ≡ undone out.old marks.old.items }
+            OpensFor game opening.entry.text.now opening.entry.config opening.entry.now opened seats.now
+            out.old.queued out.new.queued) }
+        ensures committed { out.new.committed ≡ out.old.committed }
     {
-        let Ok((playing, mut outbox)) = Match::new(alloc, game, text, config, at) else {
+        let Opening { text, config, now } = opening;
+        let Ok((playing, mut outbox)) = Match::new(out.allocator(), game, text, config, now) else {
             return Err(Memory);
         };
-        let told = out.tell_seats(seats, &outbox, marks);
+        let told = out.tell_seats(seats, &outbox);
         outbox.cut_back(&[0; MAX_SEATS]);
         told?;
         Ok(Running { playing, outbox })
     }
 
-    /// Handles an event, and passes on what the match says to the lines on its seats.
+    /// Handles what arrives, and passes on what the match says to the lines on its seats.
     pub(crate) fn step(
         &mut self,
-        event: Event<'_>,
+        arrival: Arrival<'_>,
         seats: &[Option<u64>],
-        out: &mut HallOut,
-        marks: &mut Vec<Mark>,
+        out: &mut Queues,
     ) -> Result<(), Memory>
-        requires { length seats.now ≡ seats_of self.old.game }
-        ensures steps { OnOk result (StepsFor self.old (event_of event.entry) self.new
-            seats.now out.old out.new) }
+        requires seats { length seats.now ≡ seats_of self.old.game }
+        requires whole { ComesWhole arrival }
+        ensures steps { OnOk result (StepsFor self.old (arrival_of arrival.entry) self.new
+            seats.now out.old.queued out.new.queued) }
         ensures game { self.new.game ≡ self.old.game }
-        ensures undone { undone out.new marks.new.items ≡ undone out.old marks.old.items }
+        ensures committed { out.new.committed ≡ out.old.committed }
     {
-        self.playing.step(event, &mut self.outbox)?;
-        let told = out.tell_seats(seats, &self.outbox, marks);
+        self.playing.receive(arrival, &mut self.outbox)?;
+        let told = out.tell_seats(seats, &self.outbox);
         self.outbox.cut_back(&[0; MAX_SEATS]);
         told
     }

@@ -32,6 +32,6 @@ impl<W: Log> Hall<W> {
     {
         // The outbox has a queue for each of a hall's lines.
         let _lines = out.lines();
-        serve_engine(self.allocator(), lines, self, out, clock, rounds)
+        serve_engine(lines, self, out, clock, rounds)
     }
 }

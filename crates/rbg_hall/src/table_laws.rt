@@ -4,7 +4,8 @@ ghost use Rattle.rbg_match.specs.Limits.{message_limit};
 ghost use Rattle.rbg_hall.specs.TableLaws.{LinesHaveOneSeat, OneTable, RunHoldsTranscript};
 ghost use Rattle.rbg_hall.specs.TableLimits.{lines_in_all};
 
-use crate::{LINES, MESSAGE_LIMIT};
+use crate::LINES;
+use rbg_match::MESSAGE_LIMIT;
 
 /// The limits are the numbers that the definitions state.
 pub fn limits_are_as_stated()

@@ -8,7 +8,7 @@ ghost use Rattle.rbg_hall.specs.Wholes.{HasRun, IsOfHall};
 use crate::queues::HallOut;
 use crate::{Hall, HallError, HallEvent, Table};
 use rbg_base::Memory;
-use rbg_serving::{Log, MemoryLog};
+use rbg_serving::{BoundedLog, Log};
 use std::alloc::Global;
 
 /// Makes a hall, and hears the events in turn. Returns the queues of its lines.
@@ -21,7 +21,7 @@ pub fn whole_hall(
     ensures allowed { IfOk result (IsOfHall (starts_of tables.items) (map event_of events.now)) }
     ensures refused { IfErr result (IsRefusedHall (starts_of tables.items)) }
 {
-    let (mut made, mut out) = Hall::<MemoryLog>::new(alloc, tables)?;
+    let (mut made, mut out) = Hall::<BoundedLog>::new(alloc, tables)?;
     hear_all(&mut made, events, &mut out)?;
     Ok(out)
 }

@@ -11,7 +11,7 @@ use crate::{Keeping, Serving, ServingFault};
 use rbg_game::{Game, load};
 use rbg_match::{Match, Outbox};
 use rbg_network::{Named, Network, News, begin_log};
-use rbg_serving::{Clock, Line, Log, LoggedMatch};
+use rbg_serving::{Clock, Line, Log, LoggedMatch, Opening};
 use std::alloc::Global;
 
 /// Referees a match of the text's game between the first players that connect to the port. Its log is made before they
@@ -94,7 +94,7 @@ fn serve_by<W: Log, L: Line, C: Clock>(
 {
     let now = clock.now();
     let (logged, mut outbox) = open(alloc, game, text, serving, now, log)?;
-    play_on(alloc, logged, serving, now, lines, &mut outbox, clock)
+    play_on(logged, serving, now, lines, &mut outbox, clock)
 }
 
 /// A match that begins at this moment, and what its seats are sent.
@@ -111,6 +111,11 @@ fn open<W: Log>(
     ensures game { IfOk result (λ made. made.0.played.game ≡ game) }
     ensures seats { IfOk result (λ made. length made.1 ≡ seats_of made.0.played.game) }
 {
-    let made = LoggedMatch::open(alloc, game, text, serving.config, now, log)?;
+    let opening = Opening {
+        text,
+        config: serving.config,
+        now,
+    };
+    let made = LoggedMatch::open(alloc, game, opening, log)?;
     Ok(made)
 }

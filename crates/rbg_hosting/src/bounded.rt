@@ -6,11 +6,10 @@ ghost use Rattle.rbg_hosting.specs.Played.{IsPlayedMatch};
 use crate::{Serving, ServingFault};
 use rbg_match::{Match, Outbox};
 use rbg_serving::{Clock, Line, Log, LoggedMatch, ServeError};
-use std::alloc::{AllocError, Global};
+use std::alloc::AllocError;
 
 /// Serves a match from this moment on.
 pub(crate) fn play_on<W: Log, L: Line, C: Clock>(
-    alloc: Global,
     logged: LoggedMatch<W>,
     serving: &Serving<'_>,
     now: u64,
@@ -25,13 +24,12 @@ pub(crate) fn play_on<W: Log, L: Line, C: Clock>(
 {
     let mut logged = logged;
     let rounds = begin_bound(&mut logged, serving, now);
-    serve_rounds(alloc, &mut logged, rounds, lines, outbox, clock)?;
+    serve_rounds(&mut logged, rounds, lines, outbox, clock)?;
     Ok(logged.into_played())
 }
 
 /// Serves a match for so many rounds at most.
 fn serve_rounds<W: Log, L: Line, C: Clock>(
-    alloc: Global,
     logged: &mut LoggedMatch<W>,
     rounds: u64,
     lines: &mut [L],
@@ -43,7 +41,7 @@ fn serve_rounds<W: Log, L: Line, C: Clock>(
     ensures { (text : List ℕ) → IsPlayedMatch text logged.old.played →
         OnOk result (IsPlayedMatch text logged.new.played) }
 {
-    match logged.serve(alloc, lines, outbox, clock, rounds) {
+    match logged.serve(lines, outbox, clock, rounds) {
         Ok(_) => Ok(()),
         Err(ServeError::Rounds) => Err(ServingFault::Rounds),
         Err(ServeError::Memory) => Err(fault_of(logged)),

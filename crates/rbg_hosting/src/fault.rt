@@ -5,7 +5,7 @@ use rbg_match::MatchError;
 use rbg_network::GatherError;
 use rbg_referee::RefereeingError;
 use rbg_script::ScriptError;
-use rbg_serving::{LogFailure, OpenError, Stop, WriteError};
+use rbg_serving::{LogFailure, OpenError, StopReason, WriteError};
 use std::alloc::AllocError;
 use std::io::{self, ErrorKind};
 use thiserror::Error;
@@ -79,11 +79,11 @@ impl From<LogFailure> for ServingFault {
     }
 }
 
-impl From<Stop> for ServingFault {
-    fn from(stop: Stop) -> ServingFault {
-        match stop {
-            Stop::Log => ServingFault::Device,
-            Stop::Time => ServingFault::Rounds,
+impl From<StopReason> for ServingFault {
+    fn from(reason: StopReason) -> ServingFault {
+        match reason {
+            StopReason::Log => ServingFault::Device,
+            StopReason::Time => ServingFault::Rounds,
         }
     }
 }

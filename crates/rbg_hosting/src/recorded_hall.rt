@@ -14,7 +14,7 @@ use rbg_hall::{Hall, HallEvent, HallOut};
 use rbg_match::Event;
 use rbg_network::Archive;
 use rbg_serving::{Engine, Log, ServeError};
-use std::alloc::AllocError;
+use std::alloc::{AllocError, Global};
 
 /// A hall that hands the record of each match to an archive when the match has ended.
 #[derive(Drop)]
@@ -214,6 +214,10 @@ impl<W: Log, A: Archive> Engine for RecordedHall<W, A> {
             Some(due) => Some(due.saturating_sub(self.since)),
             None => None,
         }
+    }
+
+    fn allocator(&self) -> Global {
+        self.hall.allocator()
     }
 
     fn bytes(outbox: &HallOut, line: usize) -> &[u8] {

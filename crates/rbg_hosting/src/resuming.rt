@@ -138,7 +138,6 @@ fn go_on<N: Network, W: Log>(
     let mut outbox = outbox;
     let mut clock = LaterClock::new(network.start_clock()?, moment);
     let played = play_on(
-        alloc,
         logged,
         serving,
         moment,

@@ -11,7 +11,7 @@ use crate::names::{names_in, tell_match_names};
 use crate::past::Past;
 use crate::task::Serving;
 use rbg_hall::{Hall, LINES};
-use rbg_network::{Hosting, MatchNews, Network, News, Place, StreamLine, seat_players};
+use rbg_network::{Hosting, LinePlace, MatchNews, Network, News, StreamLine, seat_players};
 use rbg_serving::Log;
 use std::alloc::{AllocError, Global};
 use std::io::{Read, Write};
@@ -49,7 +49,7 @@ fn places_of<W: Log>(
     alloc: Global,
     hall: &Hall<W>,
     players: &[u64],
-) -> Result<Vec<Place>, AllocError>
+) -> Result<Vec<LinePlace>, AllocError>
     ensures { IfOk result (λ places. places.items ≡ places_from hall.now.state.tables 1 players.now) }
 {
     let mut places = Vec::new(alloc);
@@ -70,7 +70,7 @@ pub(crate) fn count_at(players: &[u64], index: usize) -> u64
 }
 
 /// Adds so many places.
-fn add_places(place: Place, count: u64, places: &mut Vec<Place>) -> Result<(), AllocError>
+fn add_places(place: LinePlace, count: u64, places: &mut Vec<LinePlace>) -> Result<(), AllocError>
     ensures { OnOk result (places.new.items ≡ places.old.items ++ replicate count place) }
 {
     for _ in 0..count {
@@ -80,15 +80,15 @@ fn add_places(place: Place, count: u64, places: &mut Vec<Place>) -> Result<(), A
 }
 
 /// For whom a line of the match of this number is.
-fn place_of<W: Log>(hall: &Hall<W>, number: u64) -> Place
+fn place_of<W: Log>(hall: &Hall<W>, number: u64) -> LinePlace
     ensures { result ≡ place_for (begun_at hall.now.state.tables number) number }
 {
     match hall.begun(number) {
         Some(played) => match played.outcome() {
-            Some(_) => Place::Nobody,
-            None => Place::Known(number),
+            Some(_) => LinePlace::Nobody,
+            None => LinePlace::Known(number),
         },
-        None => Place::New(number),
+        None => LinePlace::New(number),
     }
 }
 
@@ -96,7 +96,7 @@ fn place_of<W: Log>(hall: &Hall<W>, number: u64) -> Place
 fn fill_places<N: Network>(
     alloc: Global,
     network: &mut N,
-    places: &[Place],
+    places: &[LinePlace],
     serving: &Serving<'_>,
 ) -> Result<Vec<StreamLine<N::Stream>>, ServingFault>
     ensures { IfOk result (λ lines. length lines.items ≤ lines_in_all) }
@@ -116,12 +116,12 @@ fn fill_places<N: Network>(
 }
 
 /// Whether no place is for a player.
-fn are_for_nobody(places: &[Place]) -> bool {
+fn are_for_nobody(places: &[LinePlace]) -> bool {
     for place in places {
         match place {
-            Place::Nobody => (),
-            Place::New(_) => return false,
-            Place::Known(_) => return false,
+            LinePlace::Nobody => (),
+            LinePlace::New(_) => return false,
+            LinePlace::Known(_) => return false,
         }
     }
     true
@@ -166,9 +166,9 @@ fn tell_names_of_log<N: Network>(
 /// The news that the match of a number begins or goes on, unless it has ended.
 fn start_news<W: Log>(hall: &Hall<W>, number: u64) -> Option<MatchNews<'static>> {
     match place_of(hall, number) {
-        Place::Nobody => None,
-        Place::New(_) => Some(MatchNews::Begins),
-        Place::Known(_) => Some(MatchNews::GoesOn),
+        LinePlace::Nobody => None,
+        LinePlace::New(_) => Some(MatchNews::Begins),
+        LinePlace::Known(_) => Some(MatchNews::GoesOn),
     }
 }
 

@@ -114,14 +114,7 @@ pub(crate) fn play_seated<N: Network, A: Archive>(
     match seat_all(alloc, network, recorded.hall(), going, serving) {
         Ok((mut lines, mut clock)) => {
             let rounds = rounds_of(serving);
-            let served = run_hall(
-                alloc,
-                recorded,
-                lines.as_mut_slice(),
-                out,
-                &mut clock,
-                rounds,
-            );
+            let served = run_hall(recorded, lines.as_mut_slice(), out, &mut clock, rounds);
             tell_stalled(network, serving.hosting, lines.as_slice(), going.players);
             served
         }
@@ -147,7 +140,6 @@ fn rounds_of(serving: &Serving<'_>) -> u64 {
 
 /// Serves the matches over the lines until all have ended.
 fn run_hall<S: Read + Write + Drop, C: Clock, W: Log, A: Archive>(
-    alloc: Global,
     recorded: &mut RecordedHall<W, A>,
     lines: &mut [StreamLine<S>],
     out: &mut HallOut,
@@ -166,7 +158,7 @@ fn run_hall<S: Read + Write + Drop, C: Clock, W: Log, A: Archive>(
 {
     // The outbox has a queue for each of a hall's lines.
     let _lines = out.lines();
-    match serve_engine(alloc, lines, recorded, out, clock, rounds) {
+    match serve_engine(lines, recorded, out, clock, rounds) {
         Ok(_served) => Ok(()),
         Err(error) => Err(recorded.fault_of(error)),
     }

@@ -60,38 +60,44 @@ impl<'t> ExpandedTokens<'t> {
     }
 }
 
+/// A token of a list, which may be the name of a macro, and the tokens after it.
+#[derive(Clone, Copy)]
+struct Site<'t, 'j> {
+    name: &'j ReadToken<'t, 'j>,
+    beyond: &'j [ReadToken<'t, 'j>],
+}
+
 /// The tokens that replace a call, and the number of tokens of the call after the macro's name. Returns `None` if the
 /// token isn't the name of a macro.
 fn body_of_call<'t, 'j>(
     alloc: Global,
     macros: &MarkedMacros<'t>,
     level: usize,
-    name: &ReadToken<'t, 'j>,
-    beyond: &'j [ReadToken<'t, 'j>],
+    site: Site<'t, 'j>,
     read: usize,
 ) -> Result<Option<(Vec<ReadToken<'t, 'j>>, usize)>, MacroError>
     requires within { read ≤ MAX_READ }
-    requires named { IsMarked macros.now name.now }
-    requires beyond { All (IsMarked macros.now) beyond.now }
+    requires named { IsMarked macros.now site.name.now }
+    requires beyond { All (IsMarked macros.now) site.beyond.now }
     ensures ok { IfOk result (λ o. MatchOption o
-        (meets macros.now (read_lexeme name.now) (map read_lexeme beyond.now) ≡ Stays)
-        (λ x. GivesWay macros.now level (read_lexeme name.now) (map read_lexeme beyond.now) read
+        (meets macros.now (read_lexeme site.entry.name.now) (map read_lexeme site.entry.beyond.now) ≡ Stays)
+        (λ x. GivesWay macros.now level (read_lexeme site.entry.name.now) (map read_lexeme site.entry.beyond.now) read
         (map read_lexeme x.0.items) x.1)) }
     ensures marked { IfOk result (λ o. IfSome o (λ x. All (IsMarked macros.now) x.0.items)) }
     ensures err { IfErr result (UnlessMemory (λ e. (k : ℕ) →
-        FailsReading macros.now level read k (read_lexeme name.now
-        ∷ map read_lexeme beyond.now) e)) }
+        FailsReading macros.now level read k (read_lexeme site.entry.name.now
+        ∷ map read_lexeme site.entry.beyond.now) e)) }
 {
-    let Some(template) = macros.get(name) else {
+    let Some(template) = macros.get(site.name) else {
         return Ok(None);
     };
     let mut call = Call {
         body: template.body.as_slice(),
         arguments: SmallVec::new(alloc),
     };
-    let len = read_arguments(&mut call.arguments, template, name.at, beyond)?;
+    let len = read_arguments(&mut call.arguments, template, site.name.at, site.beyond)?;
     if level >= MAX_LEVEL {
-        return Err(MacroError::Depth { at: name.at });
+        return Err(MacroError::Depth { at: site.name.at });
     }
     let Some(count) = filled_len(call.body, &call.arguments, MAX_READ - read) else {
         return Err(MacroError::TooManyTokens);
@@ -151,14 +157,11 @@ fn read_joined<'t, 'j>(
 {
     let mut at = 0;
     while at < list.len() {
-        match body_of_call(
-            alloc,
-            macros,
-            level,
-            &list[at],
-            &list[at + 1..],
-            expanded.read,
-        )? {
+        let site = Site {
+            name: &list[at],
+            beyond: &list[at + 1..],
+        };
+        match body_of_call(alloc, macros, level, site, expanded.read)? {
             None => {
                 expanded.keep(&list[at])?;
                 at += 1;

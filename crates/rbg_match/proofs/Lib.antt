@@ -8,6 +8,7 @@ pub mod HandlingLemmas
 pub mod Marking
 pub mod Taking
 pub mod Events
+pub mod Arriving
 pub mod Histories
 pub mod Stepping
 pub mod Greeting

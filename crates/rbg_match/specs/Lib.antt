@@ -7,6 +7,7 @@ pub mod PlayingOn
 pub mod History
 pub mod Handling
 pub mod Inputs
+pub mod Arrivals
 pub mod Transcript
 pub mod Matches
 pub mod Laws

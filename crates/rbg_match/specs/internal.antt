@@ -2,6 +2,7 @@
 pub mod Codes
 pub mod InputOf
 pub mod Inboxes
+pub mod Items
 pub mod Opening
 pub mod PlayOf
 pub mod Playable

@@ -17,7 +17,7 @@ impl Event<'_> {
     ghost use Rattle.rbg_match.specs.Inputs.{event_of, moment_of};
 
     /// The moment of the event.
-    pub(crate) fn at(&self) -> u64
+    pub fn at(&self) -> u64
         ensures { result ≡ moment_of (event_of self.now) }
     {
         match *self {

@@ -2,6 +2,7 @@
 //! queues for each seat the messages of the match.
 #![tactic(auto)]
 
+mod arrival;
 mod asking;
 mod config;
 mod dispatch;
@@ -9,6 +10,7 @@ mod error;
 mod event;
 mod handling;
 mod input;
+mod items;
 pub mod laws;
 mod made;
 mod matches;
@@ -18,9 +20,11 @@ mod play;
 mod state;
 mod turns;
 
+pub use arrival::Arrival;
 pub use config::{Config, LATEST_MOMENT, MAX_REFUSALS, MAX_TURN_MS};
 pub use error::MatchError;
 pub use event::Event;
 pub use made::Made;
 pub use matches::Match;
+pub use opening::MESSAGE_LIMIT;
 pub use outbox::{MAX_SEATS, Outbox};

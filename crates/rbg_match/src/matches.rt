@@ -10,7 +10,7 @@ ghost use Rattle.rbg_match.specs.internal.Opening.{match_begun};
 
 use crate::opening::{new_inboxes, referee_at_start};
 use crate::state::Referee;
-use crate::{Config, Event, LATEST_MOMENT, Made, MatchError, Outbox};
+use crate::{Arrival, Config, Event, LATEST_MOMENT, Made, MatchError, Outbox};
 use rbg_base::Memory;
 use rbg_moves::{Listed, Over, Place};
 use rbg_rules::Game;
@@ -86,6 +86,7 @@ impl Match {
       IsOk,
     };
     ghost use Rattle.rbg_match.specs.Config.{IsWithinLimits};
+    ghost use Rattle.rbg_match.specs.Arrivals.{MayCome, arrival_of};
     ghost use Rattle.rbg_match.specs.Inputs.{IsTickAlone, counted, moment_of};
     ghost use Rattle.rbg_moves.specs.Answers.{ListsMoves};
     ghost use Rattle.rbg_moves.specs.Listing.{IsListed};
@@ -141,6 +142,35 @@ impl Match {
             self.old.failed ≡ false →
             IsOk result }
     {
+        self.receive(Arrival::Plain(event), outbox)
+    }
+
+    /// Handles what arrives as `step` handles the event for which it stands: an item is handled as the piece that holds it
+    /// and nothing else, but isn't cut or copied again.
+    pub fn receive(&mut self, arrival: Arrival<'_>, outbox: &mut Outbox) -> Result<(), Memory>
+        requires seats { length outbox.old ≡ seats_of self.old.game }
+        requires comes { self.old.failed ≡ false →
+            self.old.play.outcome ≡ None →
+            MayCome self.old.streams.rests arrival }
+        ensures ok { OnOk result (Steps self.old (arrival_of arrival.entry) self.new outbox.old
+            outbox.new) }
+        ensures err { OnErr result
+            ((outbox.new ≡ outbox.old) × (self.new.failed ≡ true)
+            × (self.new.game ≡ self.old.game)) }
+        ensures kept { (self.new.config ≡ self.old.config) × (self.new.began ≡ self.old.began) }
+        ensures history { OnOk result (HasHistory self.old → HasHistory self.new) }
+        ensures failed { self.old.failed ≡ true → IsErr result }
+        ensures seats { length outbox.new ≡ length outbox.old }
+        ensures ended { (outcome : Outcome) →
+            self.old.play.outcome ≡ Some outcome →
+            self.old.failed ≡ false →
+            IsOk result }
+        ensures quiet { IsTickAlone self.old.streams.rests (arrival_of arrival.entry) →
+            counted self.old.streams (moment_of (arrival_of arrival.entry))
+            < due_of self.old.config self.old.play →
+            self.old.failed ≡ false →
+            IsOk result }
+    {
         if self.failed {
             return Err(Memory);
         }
@@ -148,7 +178,7 @@ impl Match {
             return Ok(());
         }
         let marks = outbox.marks();
-        let handled = self.referee.step(&mut self.inboxes, event, outbox);
+        let handled = self.referee.step(&mut self.inboxes, arrival, outbox);
         if handled.is_err() {
             self.failed = true;
             outbox.cut_back(&marks);
@@ -174,6 +204,11 @@ impl Match {
             (λ listed. listed.cut) }
     {
         self.referee.game.list_moves(&self.referee.play.place, max)
+    }
+
+    /// The allocator from which the match takes memory.
+    pub fn allocator(&self) -> Global {
+        *self.inboxes.allocator()
     }
 
     /// The moves so far.

@@ -23,7 +23,7 @@ use rbg_wire::{Inbox, Message};
 use std::alloc::Global;
 
 /// The maximum number of bytes of a seat's message, without its zero byte.
-pub(crate) const MESSAGE_LIMIT: usize = 4096;
+pub const MESSAGE_LIMIT: usize = 4096;
 
 /// Greets one seat.
 fn greet_seat(

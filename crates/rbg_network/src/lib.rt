@@ -30,7 +30,7 @@ pub use gathering::{GatherError, Hosting, gather};
 pub use named_log::{Named, begin_log, take_log};
 pub use network::{Network, is_nothing_yet};
 pub use news::{MatchNews, News};
-pub use seating::{Place, seat_players};
+pub use seating::{LinePlace, seat_players};
 pub use stream_line::StreamLine;
 pub use system_archive::SystemArchive;
 pub use system_clock::SystemClock;

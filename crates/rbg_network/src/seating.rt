@@ -12,7 +12,7 @@ use std::io::{Read, Write};
 
 /// For whom a line of a hall is.
 #[derive(Clone, Copy)]
-pub enum Place {
+pub enum LinePlace {
     /// For nobody.
     Nobody,
     /// For a player of the match of this number. The hall hears that it asks for a seat.
@@ -53,7 +53,7 @@ pub fn seat_players<N: Network>(
     alloc: Global,
     network: &mut N,
     listener: &mut N::Listener,
-    places: &[Place],
+    places: &[LinePlace],
     hosting: Hosting,
 ) -> Result<Vec<StreamLine<N::Stream>>, GatherError>
     ensures { IfOk result (λ lines. length lines.items ≡ length places.now) }
@@ -76,7 +76,7 @@ pub fn seat_players<N: Network>(
 /// Of each place its line, if it is for nobody.
 fn lines_at_first<S: Read + Write + Drop>(
     alloc: Global,
-    places: &[Place],
+    places: &[LinePlace],
 ) -> Result<Vec<Option<StreamLine<S>>>, AllocError>
     ensures { IfOk result (λ taken. length taken.items ≡ length places.now) }
 {
@@ -88,11 +88,11 @@ fn lines_at_first<S: Read + Write + Drop>(
 }
 
 /// The line of a place, if it is for nobody.
-fn line_at_first<S: Read + Write + Drop>(place: Place) -> Option<StreamLine<S>> {
+fn line_at_first<S: Read + Write + Drop>(place: LinePlace) -> Option<StreamLine<S>> {
     match place {
-        Place::Nobody => Some(StreamLine::of_nobody()),
-        Place::New(_) => None,
-        Place::Known(_) => None,
+        LinePlace::Nobody => Some(StreamLine::of_nobody()),
+        LinePlace::New(_) => None,
+        LinePlace::Known(_) => None,
     }
 }
 
@@ -101,7 +101,7 @@ fn fill_places<N: Network>(
     network: &mut N,
     listener: &mut N::Listener,
     clock: &mut N::Clock,
-    places: &[Place],
+    places: &[LinePlace],
     taken: &mut [Option<StreamLine<N::Stream>>],
     guests: &mut Vec<Guest<N::Stream>>,
     hosting: Hosting,
@@ -146,7 +146,7 @@ fn let_in<S: Read + Write + Drop>(guests: &mut Vec<Guest<S>>, stream: S) -> Resu
 /// Hears what has come from the guests. Who asks for a place gets one that is free, or is told that there is none.
 fn hear_guests<N: Network>(
     network: &mut N,
-    places: &[Place],
+    places: &[LinePlace],
     taken: &mut [Option<StreamLine<N::Stream>>],
     guests: &mut Vec<Guest<N::Stream>>,
     hosting: Hosting,
@@ -173,7 +173,7 @@ fn stay<S: Read + Write + Drop>(guests: &mut Vec<Guest<S>>, guest: Guest<S>) {
 /// A guest gets the lowest free place of a match, or is told that there is none.
 fn seat_guest<N: Network>(
     network: &mut N,
-    places: &[Place],
+    places: &[LinePlace],
     taken: &mut [Option<StreamLine<N::Stream>>],
     guest: Guest<N::Stream>,
     number: u64,
@@ -183,7 +183,7 @@ fn seat_guest<N: Network>(
         guest.refuse();
         return;
     };
-    let known = matches!(places.get(index), Some(Place::Known(_)));
+    let known = matches!(places.get(index), Some(LinePlace::Known(_)));
     taken[index] = Some(guest.into_line(known));
     let seat = seat_at(index, number, places);
     let news = MatchNews::Connected { seat };
@@ -192,7 +192,7 @@ fn seat_guest<N: Network>(
 
 /// The index of the lowest free place of a match.
 fn free_place<S: Read + Write + Drop>(
-    places: &[Place],
+    places: &[LinePlace],
     taken: &[Option<StreamLine<S>>],
     number: u64,
 ) -> Option<usize>
@@ -207,7 +207,7 @@ fn free_place<S: Read + Write + Drop>(
 }
 
 /// Whether the place at an index is for a player of the match of this number.
-fn is_for_at(places: &[Place], index: usize, number: u64) -> bool {
+fn is_for_at(places: &[LinePlace], index: usize, number: u64) -> bool {
     match places.get(index) {
         Some(place) => is_for(*place, number),
         None => false,
@@ -215,16 +215,16 @@ fn is_for_at(places: &[Place], index: usize, number: u64) -> bool {
 }
 
 /// Whether a place is for a player of the match of this number.
-fn is_for(place: Place, number: u64) -> bool {
+fn is_for(place: LinePlace, number: u64) -> bool {
     match place {
-        Place::Nobody => false,
-        Place::New(one) => one == number,
-        Place::Known(one) => one == number,
+        LinePlace::Nobody => false,
+        LinePlace::New(one) => one == number,
+        LinePlace::Known(one) => one == number,
     }
 }
 
 /// The seat of the place at an index, which is for a player of the match of this number.
-fn seat_at(index: usize, number: u64, places: &[Place]) -> usize {
+fn seat_at(index: usize, number: u64, places: &[LinePlace]) -> usize {
     let mut seat: usize = 1;
     for (other, place) in places.iter().enumerate() {
         if other < index && is_for(*place, number) {
@@ -237,7 +237,7 @@ fn seat_at(index: usize, number: u64, places: &[Place]) -> usize {
 /// Frees each place whose connection is closed.
 fn free_closed<N: Network>(
     network: &mut N,
-    places: &[Place],
+    places: &[LinePlace],
     taken: &mut [Option<StreamLine<N::Stream>>],
     hosting: Hosting,
 ) {
@@ -250,15 +250,15 @@ fn free_closed<N: Network>(
 }
 
 /// Tells that the place at an index is free again.
-fn tell_left<N: Network>(network: &mut N, index: usize, places: &[Place], hosting: Hosting) {
+fn tell_left<N: Network>(network: &mut N, index: usize, places: &[LinePlace], hosting: Hosting) {
     match places.get(index) {
-        Some(Place::New(number)) | Some(Place::Known(number)) => {
+        Some(LinePlace::New(number)) | Some(LinePlace::Known(number)) => {
             let seat = seat_at(index, *number, places);
             let news = MatchNews::Left { seat };
             let number = *number;
             hosting.tell(network, &News::OfMatch { number, news });
         }
-        Some(Place::Nobody) | None => {}
+        Some(LinePlace::Nobody) | None => {}
     }
 }
 

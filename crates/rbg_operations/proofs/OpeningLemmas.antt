@@ -9,10 +9,13 @@ use Rattle.rbg_operations.specs.Answers.{IsGamesAnswer}
 use Rattle.rbg_operations.specs.Answers.IsTaskAnswer.{of_game}
 use Rattle.rbg_operations.specs.Tasks.{FileCommand, IsReadOf, IsSecondTextIn, on_record}
 use Rattle.rbg_operations.specs.Tasks.FileCommand.{Check, Referee, Replay, Migrate, Moves}
+use Rattle.rbg_operations.specs.declared.on_record.RecordCommand.{RecordCommand}
+use Rattle.rbg_operations.specs.declared.on_record.RecordCommand.TheVariants as commands
 use Rattle.rbg_operations.specs.declared.opening.Opened.{Opened}
 use Rattle.rbg_operations.specs.declared.opening.Opened.TheVariants.{Both, Answered}
 use Rattle.rbg_operations.specs.internal.Parts.{task_of, IsOnRecord, IsReadIn, IsFilesAnswer, AreOpened, OpensFiles, OpensNone, OpensTexts}
 use Rattle.rbg_operations.specs.internal.Parts.IsFilesAnswer.{of_task, unreadable}
+use Rattle.rbg_operations.specs.internal.RecordCommands.{command_of}
 
 -- the source of the second text of a command on a record
 told_in : (known : KnownFiles) (unread : Option (List ℕ)) (other told : List ℕ) → MayBe (known other) told → (command : FileCommand) → IsOnRecord command → IsSecondTextIn known unread unread other command told
@@ -25,6 +28,12 @@ told_in known unread other told may Moves on = (may, refl)
 -- such a command isn't `referee`
 no_referee : (command : FileCommand) → IsOnRecord command → command ≢ Referee
 no_referee command on same = subst IsOnRecord same on
+
+-- each command on a record is one
+pub is_on_record : (command : RecordCommand) → IsOnRecord (command_of command)
+is_on_record commands.Replay = tt
+is_on_record commands.Migrate = tt
+is_on_record commands.Moves = tt
 
 -- what is answered about a game and a record is the answer to the command
 pub opened_answer : (known : KnownFiles) (file other : List ℕ) (game : AbstractGame) (told : List ℕ) (command : FileCommand) (text : List ℕ) (status : Status) → IsOnRecord command → AreOpened known file other game told → ((description : List ℕ) → IsGamesAnswer game description told command text status) → (unread : Option (List ℕ)) → IsFilesAnswer known unread unread (on_record command file other) text status

@@ -1,15 +1,15 @@
 //! What `moves` answers to a description.
 ghost use Rattle.std.specs.Prelude.{◌≡◌, IfOk};
-ghost use Rattle.rbg_game.specs.Loading.{IsMemory, Loads};
+ghost use Rattle.rbg_game.specs.Loading.{Loads};
 ghost use Rattle.rbg_operations.specs.ListingAnswers.{IsMovesAnswer};
 ghost use Rattle.rbg_operations.specs.Openings.{IsOpenedText, IsOpeningText};
-ghost use Rattle.rbg_referee.specs.Answers.{refused_line};
 
+use crate::loading::answer_unloaded;
 use crate::opened::opened_lines;
 use rbg_console::Status;
-use rbg_game::{Game, LoadError, load};
+use rbg_game::{Game, load};
 use rbg_match::{Config, Match};
-use rbg_referee::{Answer, answer_refused};
+use rbg_referee::Answer;
 use std::alloc::{AllocError, Global};
 
 /// The config of the match that is opened. No line shows it.
@@ -24,20 +24,7 @@ pub(crate) fn answer_moves(alloc: Global, text: &[u8]) -> Result<Answer, AllocEr
 {
     match load(alloc, text) {
         Ok(game) => answer_game(alloc, game, text),
-        Err(error) => refuse(alloc, error),
-    }
-}
-
-/// The line of a refusal. Refused memory has no such line.
-pub(crate) fn refuse(alloc: Global, error: LoadError) -> Result<Answer, AllocError>
-    ensures known { IfOk result (λ _. ¬ IsMemory error) }
-    ensures text { IfOk result (λ answer. answer.text.items ≡ refused_line error) }
-    ensures status { IfOk result (λ answer. answer.status ≡ Status.Refused) }
-{
-    if error.is_memory() {
-        Err(AllocError)
-    } else {
-        answer_refused(alloc, error)
+        Err(error) => answer_unloaded(alloc, error),
     }
 }
 

@@ -11,6 +11,7 @@ mod listing_lines;
 mod loading;
 mod migrate;
 mod moves;
+mod on_record;
 mod opened;
 mod opening;
 mod place;

@@ -4,11 +4,9 @@ ghost use Rattle.rbg_operations.specs.Answers.{IsGamesAnswer};
 ghost use Rattle.rbg_operations.specs.Runs.{IsTaskRun};
 ghost use Rattle.rbg_operations.specs.Tasks.{on_record};
 ghost use Rattle.rbg_operations.specs.Tasks.FileCommand.{Migrate};
-ghost use Rattle.rbg_operations.specs.internal.Parts.{IsFilesAnswer};
 
 use crate::lines::answer_record_fault;
-use crate::opening::{Opened, open_files};
-use crate::telling::write_and_tell;
+use crate::on_record::{RecordCommand, RecordTask, run_on_record};
 use rbg_console::{Files, Status};
 use rbg_game::Game;
 use rbg_record::migrate;
@@ -28,29 +26,16 @@ pub fn run_migrate<F: Files, W: Write>(
         (on_record Migrate file.now other.now)
         (W.contents output.old) (W.contents output.new) result }
 {
-    let answered = answer_files(alloc, file, other, files);
-    write_and_tell(files, output, answered)
-}
-
-/// The answer to what the files have.
-fn answer_files<F: Files>(
-    alloc: Global,
-    file: &str,
-    other: &str,
-    files: &mut F,
-) -> Result<Answer, AllocError>
-    ensures { IfOk result (λ answer. (unread : Option (List ℕ)) →
-        IsFilesAnswer (F.told files.old) unread unread (on_record Migrate file.now other.now)
-        answer.text.items answer.status) }
-{
-    match open_files(alloc, file, other, files)? {
-        Opened::Both { game, told } => rewrite(alloc, &game, told.as_slice()),
-        Opened::Answered(answer) => Ok(answer),
-    }
+    let task = RecordTask {
+        command: RecordCommand::Migrate,
+        file,
+        record_file: other,
+    };
+    run_on_record(alloc, task, files, output)
 }
 
 /// Version 2 of a record of version 1.
-fn rewrite(alloc: Global, game: &Game, told: &[u8]) -> Result<Answer, AllocError>
+pub(crate) fn rewrite(alloc: Global, game: &Game, told: &[u8]) -> Result<Answer, AllocError>
     ensures { IfOk result (λ answer. (description : List ℕ) →
         IsGamesAnswer game.now description told.now Migrate answer.text.items answer.status) }
 {

@@ -2,7 +2,8 @@
 ghost use Rattle.std.specs.Prelude.{IfOk};
 ghost use Rattle.rbg_operations.specs.ListingRuns.{IsFilesMoves, IsMovesRun};
 
-use crate::answer::{answer_moves, refuse};
+use crate::answer::answer_moves;
+use crate::loading::answer_unloaded;
 use crate::telling::write_and_tell;
 use rbg_console::{Files, Input, Status};
 use rbg_game::LoadError;
@@ -30,7 +31,7 @@ fn answer_file<F: Files>(alloc: Global, file: &str, files: &mut F) -> Result<Ans
 {
     match files.read_file(alloc, file, MAX_TEXT)? {
         Input::Whole(text) => answer_moves(alloc, text.as_slice()),
-        Input::TooLong => refuse(alloc, LoadError::Text(TextError::TooLong)),
+        Input::TooLong => answer_unloaded(alloc, LoadError::Text(TextError::TooLong)),
         Input::Device => answer_device(alloc),
     }
 }

@@ -96,14 +96,7 @@ impl Player {
             return Err(error);
         }
         let len = out.len();
-        match hear_piece(
-            self.alloc,
-            &mut self.inbox,
-            &mut self.stage,
-            piece,
-            chooser,
-            out,
-        ) {
+        match hear_piece(&mut self.inbox, &mut self.stage, piece, chooser, out) {
             Ok(()) => Ok(self.stage.heard()),
             Err(error) => {
                 self.inbox = Inbox::new(self.alloc, MAX_MESSAGE_BYTES);
@@ -126,7 +119,6 @@ fn give_up(error: PlayerError, len: usize, out: &mut Vec<u8>) -> Stage
 /// Receives the items that a piece completes, in turn. After an error the bytes that were there are still there, and
 /// others may follow them.
 fn hear_piece<C: Chooser>(
-    alloc: Global,
     inbox: &mut Inbox,
     stage: &mut Stage,
     piece: &[u8],
@@ -141,6 +133,7 @@ fn hear_piece<C: Chooser>(
     ensures fails { IfErr result (Fails (player_of stage.old inbox.old) piece.now) }
     ensures kept { take (length out.old.items) out.new.items ≡ out.old.items }
 {
+    let alloc = *out.allocator();
     inbox.feed(piece)?;
     while let Some(took) = inbox.take() {
         hear_item(alloc, stage, took, chooser, out)?;

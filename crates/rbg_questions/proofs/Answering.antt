@@ -5,7 +5,7 @@ use Rattle.rbg_rules.specs.Meaning.{AbstractGame, AbstractPlace, IsPlaceOf, Lega
 use Rattle.rbg_moves.specs.Listing.{IsListed}
 use Rattle.rbg_questions.specs.declared.question.Question.{Question}
 use Rattle.rbg_questions.specs.declared.question.Question.TheVariants.{Moves, Make, Back, Heard, Place, State, Key, Values, Board, Names, Shape, Random, Pack, Unpack, Quit}
-use Rattle.rbg_questions.specs.declared.refusal.Refusal.{Refusal}
+use Rattle.rbg_questions.specs.declared.question_error.QuestionError.{QuestionError}
 use Rattle.rbg_questions.specs.Questions.{SpellsQuestion}
 use Rattle.rbg_questions.specs.Answers.{Answer, moves, to_move, state, key, values, board, names, shape, by_chance, packed, farewell, answer_text, refusal_text}
 use Rattle.rbg_questions.specs.Chance.{AreTallied, Counted}
@@ -98,15 +98,15 @@ unfolding answer_text
 no_farewell = refl
 
 -- a line that is answered, and one that is refused
-pub hears_question : (result : Result (Unit {0}) Refusal) (old new : AbstractSession) (line : List ℕ) (question : Question) (before after : List ℕ) → SpellsQuestion line question → OnOk result (AnswersIn old question new before after) → OnOk result (Hears old line new before after)
+pub hears_question : (result : Result (Unit {0}) QuestionError) (old new : AbstractSession) (line : List ℕ) (question : Question) (before after : List ℕ) → SpellsQuestion line question → OnOk result (AnswersIn old question new before after) → OnOk result (Hears old line new before after)
 hears_question (Ok x) old new line question before after spelled is = answered spelled is
 hears_question (Err e) old new line question before after spelled is = tt
 
-pub refuses_question : (result : Result (Unit {0}) Refusal) (old : AbstractSession) (line : List ℕ) (question : Question) → SpellsQuestion line question → IfErr result (IsRefused old question) → IfErr result (IsLineRefused old line)
+pub refuses_question : (result : Result (Unit {0}) QuestionError) (old : AbstractSession) (line : List ℕ) (question : Question) → SpellsQuestion line question → IfErr result (IsRefused old question) → IfErr result (IsLineRefused old line)
 refuses_question (Ok x) old line question spelled is = tt
 refuses_question (Err e) old line question spelled is = refused spelled is
 
-pub hears_refusal : {E : Type 0} (result : Result (Unit {0}) E) (old new : AbstractSession) (line : List ℕ) (refusal : Refusal) (before mid after : List ℕ) → new ≡ old → mid ≡ before → IsLineRefused old line refusal → OnOk result (after ≡ mid ++ refusal_text refusal) → OnOk result (Hears old line new before after)
+pub hears_refusal : {E : Type 0} (result : Result (Unit {0}) E) (old new : AbstractSession) (line : List ℕ) (refusal : QuestionError) (before mid after : List ℕ) → new ≡ old → mid ≡ before → IsLineRefused old line refusal → OnOk result (after ≡ mid ++ refusal_text refusal) → OnOk result (Hears old line new before after)
 hears_refusal (Ok x) old new line refusal before mid after same kept why told =
     let whole : after ≡ before ++ refusal_text refusal = told ∙ ap (λ m. m ++ refusal_text refusal) kept in
     subst (λ (s : AbstractSession). Hears old line s before after) (sym same)

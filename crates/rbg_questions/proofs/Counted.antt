@@ -7,7 +7,7 @@ use Rattle.rbg_search.specs.declared.over.Over.{Over}
 use Rattle.rbg_search.specs.declared.over.Over.TheVariants.{Deep, Wide, Memory}
 use Rattle.rbg_moves.specs.Listing.{IsGathered, IsListed}
 use Rattle.rbg_moves.proofs.Outcome.{listed}
-use Rattle.rbg_questions.specs.declared.refusal.Refusal.{Refusal}
+use Rattle.rbg_questions.specs.declared.question_error.QuestionError.{QuestionError}
 use Rattle.rbg_questions.specs.declared.question.Question.TheVariants.{Moves, State}
 use Rattle.rbg_questions.specs.Answers.{to_move, finished}
 use Rattle.rbg_questions.specs.Answering.{HasMoves, StandsAt, IsRefused, goes_on, is_over, heavy_to_list, heavy_to_count, no_memory}
@@ -21,11 +21,11 @@ gather_unlisted T game here place Deep same hard = too_hard (subst (λ (p : Abst
 gather_unlisted T game here place Wide same hard = too_hard (subst (λ (p : AbstractPlace). IsTooHard game list_moves p) same (hard (inr refl)))
 gather_unlisted T game here place Memory same hard = no_room
 
-pub moves_refused : (session : AbstractSession) (max : Option ℕ) (refusal : Refusal) → IsUnlisted session.game session.place refusal → IsRefused session (Moves max) refusal
+pub moves_refused : (session : AbstractSession) (max : Option ℕ) (refusal : QuestionError) → IsUnlisted session.game session.place refusal → IsRefused session (Moves max) refusal
 moves_refused session max _ (too_hard hard) = heavy_to_list hard
 moves_refused session max _ no_room = no_memory
 
-pub state_refused : (session : AbstractSession) (refusal : Refusal) → IsUnlisted session.game session.place refusal → IsRefused session State refusal
+pub state_refused : (session : AbstractSession) (refusal : QuestionError) → IsUnlisted session.game session.place refusal → IsRefused session State refusal
 state_refused session _ (too_hard hard) = heavy_to_count hard
 state_refused session _ no_room = no_memory
 

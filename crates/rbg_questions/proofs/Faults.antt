@@ -8,8 +8,8 @@ use Rattle.rbg_search.specs.declared.over.Over.TheVariants.{Deep, Wide, Memory}
 use Rattle.rbg_moves.specs.declared.unsettled.Unsettled.{Unsettled}
 use Rattle.rbg_moves.specs.declared.unsettled.Unsettled.TheVariants as unsettled
 use Rattle.rbg_questions.specs.declared.question.Question.TheVariants.{Heard, Make, Place, Unpack}
-use Rattle.rbg_questions.specs.declared.refusal.Refusal.{Refusal}
-use Rattle.rbg_questions.specs.declared.refusal.Refusal.TheVariants.{NoPlace}
+use Rattle.rbg_questions.specs.declared.question_error.QuestionError.{QuestionError}
+use Rattle.rbg_questions.specs.declared.question_error.QuestionError.TheVariants.{NoPlace}
 use Rattle.rbg_questions.specs.Sessions.{AbstractSession, Leads}
 use Rattle.rbg_questions.specs.Answers.{to_move, finished}
 use Rattle.rbg_questions.specs.Packing.{packed_text}
@@ -36,14 +36,14 @@ settle_unmade T game place middle pairs unsettled.Endless legal hard stuck = end
 settle_unmade T game place middle pairs unsettled.Memory legal hard stuck = no_memory
 
 -- the refusal of an order to make a move
-pub make_refused : (session : AbstractSession) (pairs : List (ℕ × ℕ)) (refusal : Refusal) → IsUnmade session.game session.place pairs refusal → IsRefused session (Make pairs) refusal
+pub make_refused : (session : AbstractSession) (pairs : List (ℕ × ℕ)) (refusal : QuestionError) → IsUnmade session.game session.place pairs refusal → IsRefused session (Make pairs) refusal
 make_refused session pairs _ (illegal none) = faults.illegal none
 make_refused session pairs _ (heavy_to_try hard) = faults.heavy_to_try hard
 make_refused session pairs _ (heavy_to_settle legal hard) = faults.heavy_to_settle legal hard
 make_refused session pairs _ (endless legal stuck) = faults.endless legal stuck
 make_refused session pairs _ no_memory = faults.no_memory
 
-pub untold_after : (session : AbstractSession) (pairs : List (ℕ × ℕ)) (to : AbstractPlace) (refusal : Refusal) → Leads session.game session.place pairs to → IsUntold session.game to refusal → IsRefused session (Make pairs) refusal
+pub untold_after : (session : AbstractSession) (pairs : List (ℕ × ℕ)) (to : AbstractPlace) (refusal : QuestionError) → Leads session.game session.place pairs to → IsUntold session.game to refusal → IsRefused session (Make pairs) refusal
 untold_after session pairs to _ leads (heavy hard) = faults.heavy_after leads hard
 untold_after session pairs to _ leads memory = faults.no_memory
 
@@ -53,27 +53,27 @@ try_unfollowed T game place pairs Deep hard = hard_to_try (hard (inl refl))
 try_unfollowed T game place pairs Wide hard = hard_to_try (hard (inr refl))
 try_unfollowed T game place pairs Memory hard = lost
 
-pub heard_refused : (session : AbstractSession) (pairs : List (ℕ × ℕ)) (refusal : Refusal) → IsUnfollowed session.game session.heard pairs refusal → IsRefused session (Heard pairs) refusal
+pub heard_refused : (session : AbstractSession) (pairs : List (ℕ × ℕ)) (refusal : QuestionError) → IsUnfollowed session.game session.heard pairs refusal → IsRefused session (Heard pairs) refusal
 heard_refused session pairs _ (not_legal none) = faults.not_heard none
 heard_refused session pairs _ (hard_to_try hard) = faults.heavy_to_hear hard
 heard_refused session pairs _ lost = faults.no_memory
 
-pub untold_where_heard : (session : AbstractSession) (pairs : List (ℕ × ℕ)) (to : AbstractPlace) (refusal : Refusal) → Legal session.game session.heard pairs to → IsUntold session.game to refusal → IsRefused session (Heard pairs) refusal
+pub untold_where_heard : (session : AbstractSession) (pairs : List (ℕ × ℕ)) (to : AbstractPlace) (refusal : QuestionError) → Legal session.game session.heard pairs to → IsUntold session.game to refusal → IsRefused session (Heard pairs) refusal
 untold_where_heard session pairs to _ legal (heavy hard) = faults.heavy_where_heard legal hard
 untold_where_heard session pairs to _ legal memory = faults.no_memory
 
-pub unpack_refused : (session : AbstractSession) (text : Bor (List ℕ)) (refusal : Refusal) → IsNotUnpacked session.game text.now refusal → IsRefused session (Unpack text) refusal
+pub unpack_refused : (session : AbstractSession) (text : Bor (List ℕ)) (refusal : QuestionError) → IsNotUnpacked session.game text.now refusal → IsRefused session (Unpack text) refusal
 unpack_refused session text _ (no_place none) = faults.not_packed none
 unpack_refused session text _ no_bytes = faults.no_memory
 
 pub not_unpacked_in : (game same : AbstractGame) (text : List ℕ) → same ≡ game → ((place : AbstractPlace) → IsPlaceOf same place → text ≢ packed_text place) → IsNotUnpacked game text NoPlace
 not_unpacked_in game same text is none = no_place (λ place fits. none place (subst (λ (g : AbstractGame). IsPlaceOf g place) (sym is) fits))
 
-pub untold_where_unpacked : (session : AbstractSession) (text : Bor (List ℕ)) (place : AbstractPlace) (refusal : Refusal) → IsPlaceOf session.game place → text.now ≡ packed_text place → IsUntold session.game place refusal → IsRefused session (Unpack text) refusal
+pub untold_where_unpacked : (session : AbstractSession) (text : Bor (List ℕ)) (place : AbstractPlace) (refusal : QuestionError) → IsPlaceOf session.game place → text.now ≡ packed_text place → IsUntold session.game place refusal → IsRefused session (Unpack text) refusal
 untold_where_unpacked session text place _ fits is (heavy hard) = faults.heavy_where_unpacked fits is hard
 untold_where_unpacked session text place _ fits is memory = faults.no_memory
 
-pub place_refused : (session : AbstractSession) (refusal : Refusal) → IsUntold session.game session.place refusal → IsRefused session Place refusal
+pub place_refused : (session : AbstractSession) (refusal : QuestionError) → IsUntold session.game session.place refusal → IsRefused session Place refusal
 place_refused session _ (heavy hard) = faults.heavy_to_find hard
 place_refused session _ memory = faults.no_memory
 

@@ -21,3 +21,4 @@ mod Searched
 mod Sampled
 mod Packed
 mod Misfits
+mod Digits

@@ -4,8 +4,8 @@ use Rattle.rbg_base.proofs.Errors.{passed_on}
 use Rattle.rbg_questions.specs.Answering.{IsRefused, no_memory}
 use Rattle.rbg_questions.specs.Sessions.{AbstractSession}
 use Rattle.rbg_questions.specs.declared.question.Question.{Question}
-use Rattle.rbg_questions.specs.declared.refusal.Refusal.{Refusal}
-use Rattle.rbg_questions.specs.declared.refusal.Refusal.TheVariants.{Memory}
+use Rattle.rbg_questions.specs.declared.question_error.QuestionError.{QuestionError}
+use Rattle.rbg_questions.specs.declared.question_error.QuestionError.TheVariants.{Memory}
 
-pub memory_refused : {T : Type 0} (session : AbstractSession) (question : Question) (result : Result T Refusal) → IsErrAnd result (λ e. e ≡ Memory) → IfErr result (IsRefused session question)
+pub memory_refused : {T : Type 0} (session : AbstractSession) (question : Question) (result : Result T QuestionError) → IsErrAnd result (λ e. e ≡ Memory) → IfErr result (IsRefused session question)
 memory_refused session question result is = passed_on result Memory (IsRefused session question) is no_memory

@@ -8,7 +8,7 @@ use Rattle.rbg_moves.specs.Listing.{IsGathered}
 use Rattle.rbg_moves.specs.Settling.{IsEndless, MeetsHeavy, Settles}
 use Rattle.rbg_moves.specs.declared.unsettled.Unsettled.{Unsettled}
 use Rattle.rbg_moves.specs.declared.unsettled.Unsettled.TheVariants as unsettled
-use Rattle.rbg_questions.specs.declared.refusal.Refusal.{Refusal}
+use Rattle.rbg_questions.specs.declared.question_error.QuestionError.{QuestionError}
 use Rattle.rbg_questions.specs.Chance.{Plays, no_move, one_more, Ends, is_over, is_stopped, moves_in, IsUnmoved, heavy_to_list, heavy_to_settle, endless, no_memory, IsUnplayed}
 use Rattle.rbg_questions.specs.internal.Moving.{MovesOn, moved, rests, IsPlayedTo}
 use Rattle.rbg_questions.specs.internal.Refusing.{refusal_of_over, refusal_of_unsettled}
@@ -92,11 +92,11 @@ few_in game from scores (moves ∷ matches) ended =
     let rest = few_in game from scores matches (All-tail (λ m. Ends game from m scores) moves matches ended) in
     omega (arith, parts, here, rest)
 
-pub unplayed_here : (game : AbstractGame) (from to : AbstractPlace) (many : ℕ) (refusal : Refusal) → PlayedSo game from many to → many < 10000 → IsUnmoved game to refusal → IsUnplayed game from refusal
+pub unplayed_here : (game : AbstractGame) (from to : AbstractPlace) (many : ℕ) (refusal : QuestionError) → PlayedSo game from many to → many < 10000 → IsUnmoved game to refusal → IsUnplayed game from refusal
 unplayed_here game from to many refusal so few unmoved =
     record { moves = so.moves; few = omega (arith, so.many, few); to = to; plays = so.plays; unmoved = unmoved }
 
-pub unplayed_memory : (game : AbstractGame) (from : AbstractPlace) → IsUnplayed game from Rattle.rbg_questions.specs.declared.refusal.Refusal.TheVariants.Memory
+pub unplayed_memory : (game : AbstractGame) (from : AbstractPlace) → IsUnplayed game from Rattle.rbg_questions.specs.declared.question_error.QuestionError.TheVariants.Memory
 unplayed_memory game from = record { moves = []; few = omega arith; to = from; plays = no_move; unmoved = no_memory }
 
 -- what holds of each move holds of the one at an index

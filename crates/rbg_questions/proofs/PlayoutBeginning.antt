@@ -4,8 +4,8 @@ use Rattle.rbg_rules.specs.Meaning.{AbstractGame, AbstractPlace}
 use Rattle.rbg_moves.specs.Settling.{IsEndless, MeetsHeavy, Settles}
 use Rattle.rbg_moves.specs.declared.unsettled.Unsettled.{Unsettled}
 use Rattle.rbg_moves.specs.declared.unsettled.Unsettled.TheVariants.{Heavy, Endless, Memory}
-use Rattle.rbg_questions.specs.declared.tally.Tally.{Tally}
-use Rattle.rbg_questions.specs.declared.refusal.Refusal.{Refusal}
+use Rattle.rbg_questions.specs.declared.tally.EndingTally.{EndingTally}
+use Rattle.rbg_questions.specs.declared.question_error.QuestionError.{QuestionError}
 use Rattle.rbg_questions.specs.Chance.{AreTallied, Counted, IsUnplayed, counted_by}
 use Rattle.rbg_questions.specs.Limits.{IsCount}
 use Rattle.rbg_questions.specs.Sessions.{beginning_of}
@@ -22,7 +22,7 @@ unsettled_unplayed T game first Endless same hard stuck = endless_at_first (subs
 unsettled_unplayed T game first Memory same hard stuck = no_memory
 
 -- the matches after these moves
-pub unplayed_after : (game : AbstractGame) (first place : AbstractPlace) (refusal : Refusal) → first ≡ beginning_of game → Settles game first place → IsUnplayed game place refusal → AreUnplayed game refusal
+pub unplayed_after : (game : AbstractGame) (first place : AbstractPlace) (refusal : QuestionError) → first ≡ beginning_of game → Settles game first place → IsUnplayed game place refusal → AreUnplayed game refusal
 unplayed_after game first place refusal same settles why =
     unplayed (subst (λ (from : AbstractPlace). Settles game from place) same settles) why
 
@@ -34,7 +34,7 @@ played_after game first place count counted same settles tallied = record {
 }
 
 -- the text tells of them
-pub tells_so : (game same : AbstractGame) (count : ℕ) (tallies : List Tally) (old text : List ℕ) → ArePlayouts game count (map counted_by tallies) → same ≡ game → old ≡ [] → text ≡ old ++ summary_text same.players count (map counted_by tallies) → TellsPlayouts game count text
+pub tells_so : (game same : AbstractGame) (count : ℕ) (tallies : List EndingTally) (old text : List ℕ) → ArePlayouts game count (map counted_by tallies) → same ≡ game → old ≡ [] → text ≡ old ++ summary_text same.players count (map counted_by tallies) → TellsPlayouts game count text
 tells_so game same count tallies old text played is none written = record {
   counted = map counted_by tallies;
   played = played;
@@ -42,7 +42,7 @@ tells_so game same count tallies old text played is none written = record {
 }
 
 -- so many matches are few
-pub few_playouts : (game : AbstractGame) (count : ℕ) (tallies : List Tally) → IsCount count → ArePlayouts game count (map counted_by tallies) → AreFew tallies
+pub few_playouts : (game : AbstractGame) (count : ℕ) (tallies : List EndingTally) → IsCount count → ArePlayouts game count (map counted_by tallies) → AreFew tallies
 few_playouts game count tallies so played = record {
   matches = omega (arith, so.1, played.tallied.sum);
   moves = omega (arith, so.1, few_tallied game played.place count (map counted_by tallies) played.tallied);

@@ -6,7 +6,7 @@ use Rattle.rbg_rules.specs.Meaning.{AbstractGame, AbstractPlace, Legal}
 use Rattle.rbg_moves.specs.Settling.{Settles}
 use Rattle.rbg_wire.specs.Lines.{line_of}
 use Rattle.rbg_wire.specs.Messages.{pairs_text}
-use Rattle.rbg_questions.specs.declared.refusal.Refusal.{Refusal}
+use Rattle.rbg_questions.specs.declared.question_error.QuestionError.{QuestionError}
 use Rattle.rbg_questions.specs.declared.question.Question.TheVariants.{Sample}
 use Rattle.rbg_questions.specs.Answers.{Answer, answer_text, sampled as sampled_answer}
 use Rattle.rbg_questions.specs.Answering.{AnswersIn, IsRefused, StandsAt, samples, unsampled}
@@ -60,10 +60,10 @@ pub tells_moved : (game : AbstractGame) (from middle to : AbstractPlace) (pairs 
 tells_moved game from middle to pairs old new legal settles told =
     moved pairs (record { middle = middle; legal = legal; settles = settles }) told
 
-pub stuck_at : (game : AbstractGame) (from to : AbstractPlace) (most many : ℕ) (lines : List ℕ) (refusal : Refusal) → MadeSo game from many to lines → many < most → IsUnmoved game to refusal → IsUnsampled game from most refusal
+pub stuck_at : (game : AbstractGame) (from to : AbstractPlace) (most many : ℕ) (lines : List ℕ) (refusal : QuestionError) → MadeSo game from many to lines → many < most → IsUnmoved game to refusal → IsUnsampled game from most refusal
 stuck_at game from to most many lines refusal so_far few why = unmoved_on so_far.plays (omega (arith, few, so_far.many)) why
 
-pub untold_at : (game : AbstractGame) (from to : AbstractPlace) (most made : ℕ) (lines : List ℕ) (refusal : Refusal) → IsMade game from most made to lines → IsUntold game to refusal → IsUnsampled game from most refusal
+pub untold_at : (game : AbstractGame) (from to : AbstractPlace) (most made : ℕ) (lines : List ℕ) (refusal : QuestionError) → IsMade game from most made to lines → IsUntold game to refusal → IsUnsampled game from most refusal
 untold_at game from to most made lines _ is (heavy hard) = untold is.sampled hard
 untold_at game from to most made lines _ is memory = no_memory
 
@@ -85,6 +85,6 @@ sample_told session seed most before after (Ok x) is =
     record { answer = sampled_answer is.moves is.standing; answers = samples is.sampled is.stands; told = is.told }
 sample_told session seed most before after (Err e) is = tt
 
-pub sample_refused : {T : Type 0} (session : AbstractSession) (seed most : ℕ) (result : Result T Refusal) → IfErr result (IsUnsampled session.game session.place most) → IfErr result (IsRefused session (Sample seed most))
+pub sample_refused : {T : Type 0} (session : AbstractSession) (seed most : ℕ) (result : Result T QuestionError) → IfErr result (IsUnsampled session.game session.place most) → IfErr result (IsRefused session (Sample seed most))
 sample_refused session seed most (Ok x) is = tt
 sample_refused session seed most (Err e) is = unsampled is

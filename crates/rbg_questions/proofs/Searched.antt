@@ -8,9 +8,9 @@ use Rattle.rbg_rules.specs.Meaning.{AbstractGame, AbstractPlace, IsLegal}
 use Rattle.rbg_moves.specs.Listing.{IsGathered, IsMoveBefore}
 use Rattle.rbg_moves.proofs.Outcome.{listed}
 use Rattle.rbg_wire.specs.Lines.{line_of}
-use Rattle.rbg_questions.specs.declared.refusal.Refusal.{Refusal}
+use Rattle.rbg_questions.specs.declared.question_error.QuestionError.{QuestionError}
 use Rattle.rbg_questions.specs.declared.question.Question.TheVariants.{Search}
-use Rattle.rbg_questions.specs.declared.tally.Tally.{Tally}
+use Rattle.rbg_questions.specs.declared.tally.EndingTally.{EndingTally}
 use Rattle.rbg_questions.specs.Answers.{answer_text, searched}
 use Rattle.rbg_questions.specs.Answering.{AnswersIn, IsRefused, searches, unsearched}
 use Rattle.rbg_questions.specs.Chance.{AreTallied, Counted, counted_by, heavy_to_list, no_memory}
@@ -64,14 +64,14 @@ means_more old mid new counted i so_far written =
     ∙ ap (λ n. old ++ means_text counted n) same
 
 -- so many matches are few
-pub few_after : (game : AbstractGame) (from : AbstractPlace) (count : ℕ) (tallies : List Tally) → IsCount count → AreTallied game from count (map counted_by tallies) → AreFew tallies
+pub few_after : (game : AbstractGame) (from : AbstractPlace) (count : ℕ) (tallies : List EndingTally) → IsCount count → AreTallied game from count (map counted_by tallies) → AreFew tallies
 few_after game from count tallies so tallied = record {
   matches = omega (arith, so.1, tallied.sum);
   moves = omega (arith, so.1, few_tallied game from count (map counted_by tallies) tallied);
 }
 
 -- the line of a move
-pub writes_one : (game same : AbstractGame) (place to : AbstractPlace) (count : ℕ) (pairs : List (ℕ × ℕ)) (tallies : List Tally) (old new : List ℕ) → Leads game place pairs to → AreTallied game to count (map counted_by tallies) → same ≡ game → new ≡ old ++ searched_line (length same.players) (record { pairs = pairs; counted = map counted_by tallies }) → WritesOne game place count pairs old new
+pub writes_one : (game same : AbstractGame) (place to : AbstractPlace) (count : ℕ) (pairs : List (ℕ × ℕ)) (tallies : List EndingTally) (old new : List ℕ) → Leads game place pairs to → AreTallied game to count (map counted_by tallies) → same ≡ game → new ≡ old ++ searched_line (length same.players) (record { pairs = pairs; counted = map counted_by tallies }) → WritesOne game place count pairs old new
 writes_one game same place to count pairs tallies old new leads tallied is written = record {
   one = record { pairs = pairs; counted = map counted_by tallies };
   same = refl;
@@ -128,7 +128,7 @@ writes_search game place count moves shown lent old mid new len (Ok x) are is sa
 writes_search game place count moves shown lent old mid new len (Err e) are is same head lines = tt
 
 -- why the moves weren't listed
-pub unlisted_search : (game : AbstractGame) (place : AbstractPlace) (refusal : Refusal) → IsUnlisted game place refusal → IsUnsearched game place refusal
+pub unlisted_search : (game : AbstractGame) (place : AbstractPlace) (refusal : QuestionError) → IsUnlisted game place refusal → IsUnsearched game place refusal
 unlisted_search game place _ (too_hard hard) = unmoved (heavy_to_list hard)
 unlisted_search game place _ no_room = unmoved no_memory
 
@@ -142,6 +142,6 @@ search_told session seed count before after (Ok x) is =
     record { answer = searched (length session.game.players) is.every; answers = searches is.are; told = is.told }
 search_told session seed count before after (Err e) is = tt
 
-pub search_refused : {T : Type 0} (session : AbstractSession) (seed count : ℕ) (result : Result T Refusal) → IfErr result (IsUnsearched session.game session.place) → IfErr result (IsRefused session (Search seed count))
+pub search_refused : {T : Type 0} (session : AbstractSession) (seed count : ℕ) (result : Result T QuestionError) → IfErr result (IsUnsearched session.game session.place) → IfErr result (IsRefused session (Search seed count))
 search_refused session seed count (Ok x) is = tt
 search_refused session seed count (Err e) is = unsearched is

@@ -3,7 +3,7 @@ use Rattle.rbg_base.proofs.Common.{◌≡◌, ◌≢◌, ℕ, zero, suc, ◌+◌
 use Rattle.std.proofs.lemmas.List.{length-append, map-append, set_at}
 use Rattle.rbg_rules.specs.Meaning.{AbstractGame, AbstractPlace}
 use Rattle.rbg_search.proofs.Counts.{all_pairs_append}
-use Rattle.rbg_questions.specs.declared.tally.Tally.{Tally}
+use Rattle.rbg_questions.specs.declared.tally.EndingTally.{EndingTally}
 use Rattle.rbg_questions.specs.Answers.{counted_text}
 use Rattle.rbg_questions.specs.Chance.{Ends, Counted, counted_by, scores_of, AreMatches, AreTallied}
 use Rattle.rbg_questions.specs.internal.Counting.{CountsIn, again, first, IsSmall, IsTallyAt}
@@ -99,7 +99,7 @@ few_of : (game : AbstractGame) (from : AbstractPlace) (counted : Counted) → Ar
 few_of game from counted are =
     omega (arith, are.many, are.moved, few_in game from counted.scores are.matches are.ended)
 
-small_sum : (game : AbstractGame) (from : AbstractPlace) (tallies : List Tally) (count : ℕ) → All (AreMatches game from) (map counted_by tallies) → sum_by its_matches (map counted_by tallies) ≤ count → count < 1000001 → All IsSmall tallies
+small_sum : (game : AbstractGame) (from : AbstractPlace) (tallies : List EndingTally) (count : ℕ) → All (AreMatches game from) (map counted_by tallies) → sum_by its_matches (map counted_by tallies) ≤ count → count < 1000001 → All IsSmall tallies
 small_sum game from [] count are few small = All-nil IsSmall
 small_sum game from (t ∷ tallies) count are few small =
     let parts : sum_by its_matches (counted_by t ∷ map counted_by tallies) ≡ (0 + t.matches) + sum_by its_matches (map counted_by tallies) = sum_by-append its_matches (counted_by t ∷ []) (map counted_by tallies) in
@@ -108,7 +108,7 @@ small_sum game from (t ∷ tallies) count are few small =
     (omega (arith, parts, few, small), omega (arith, parts, few, small, moved))
     (small_sum game from tallies count (All-tail (AreMatches game from) (counted_by t) (map counted_by tallies) are) (omega (arith, parts, few)) small)
 
-pub small_tallies : (game : AbstractGame) (from : AbstractPlace) (count : ℕ) (tallies : List Tally) → AreTallied game from count (map counted_by tallies) → count < 1000001 → All IsSmall tallies
+pub small_tallies : (game : AbstractGame) (from : AbstractPlace) (count : ℕ) (tallies : List EndingTally) → AreTallied game from count (map counted_by tallies) → count < 1000001 → All IsSmall tallies
 small_tallies game from count tallies tallied small = small_sum game from tallies count tallied.matches (omega (arith, tallied.sum)) small
 
 -- no more moves were made than may be in so many matches
@@ -137,9 +137,9 @@ parts_at (y ∷ xs) (suc i) x is =
     (y ∷ rest.0, rest.1, (λ k. y ∷ rest.2 k), ap suc rest.3)
 
 -- the tally at an index has one match more
-pub counts_again : (tallies : List Tally) (index made : ℕ) (scores : Option (List ℕ)) (after : List Tally) → (at : IsTallyAt scores tallies index) → after ≡ set tallies index (record { ending = at.tally.ending; matches = at.tally.matches + 1; moves = at.tally.moves + made }) → CountsIn scores made (map counted_by tallies) (map counted_by after)
+pub counts_again : (tallies : List EndingTally) (index made : ℕ) (scores : Option (List ℕ)) (after : List EndingTally) → (at : IsTallyAt scores tallies index) → after ≡ set tallies index (record { ending = at.tally.ending; matches = at.tally.matches + 1; moves = at.tally.moves + made }) → CountsIn scores made (map counted_by tallies) (map counted_by after)
 counts_again tallies index made scores after at set_is =
-    let new : Tally = record { ending = at.tally.ending; matches = at.tally.matches + 1; moves = at.tally.moves + made } in
+    let new : EndingTally = record { ending = at.tally.ending; matches = at.tally.matches + 1; moves = at.tally.moves + made } in
     let parts = parts_at tallies index at.tally at.stands in
     let front = parts.0 in
     let later = parts.1 in
@@ -152,7 +152,7 @@ counts_again tallies index made scores after at set_is =
     (subst (λ (cs : List Counted). CountsIn scores made (map counted_by front ++ (record { scores = scores; matches = at.tally.matches; moves = at.tally.moves }) ∷ map counted_by later) cs) (sym after_counted)
     (again (map counted_by front) (map counted_by later) at.tally.matches at.tally.moves))
 
-pub counts_at : (tallies : List Tally) (index made : ℕ) (d e f : Tally) (scores : Option (List ℕ)) (after : List Tally) → (at : IsTallyAt scores tallies index) → after ≡ set tallies index (record { ending = (get_or tallies index e).ending; matches = (get_or tallies index d).matches + 1; moves = (get_or tallies index f).moves + made }) → CountsIn scores made (map counted_by tallies) (map counted_by after)
+pub counts_at : (tallies : List EndingTally) (index made : ℕ) (d e f : EndingTally) (scores : Option (List ℕ)) (after : List EndingTally) → (at : IsTallyAt scores tallies index) → after ≡ set tallies index (record { ending = (get_or tallies index e).ending; matches = (get_or tallies index d).matches + 1; moves = (get_or tallies index f).moves + made }) → CountsIn scores made (map counted_by tallies) (map counted_by after)
 counts_at tallies index made d e f scores after at is =
     let first_one : get_or tallies index d ≡ at.tally = get_or_from_slice_get tallies index at.tally d at.stands in
     let other_one : get_or tallies index e ≡ at.tally = get_or_from_slice_get tallies index at.tally e at.stands in
@@ -160,18 +160,18 @@ counts_at tallies index made d e f scores after at is =
     counts_again tallies index made scores after at (is ∙ (λ i. set tallies index (record { ending = (other_one i).ending; matches = (first_one i).matches + 1; moves = (third_one i).moves + made })))
 
 -- the lines of tallies
-pub counted_lines : (tallies : List Tally) → flat_map counted_text (map counted_by tallies) ≡ flat_map (λ tally. counted_text (counted_by tally)) tallies
+pub counted_lines : (tallies : List EndingTally) → flat_map counted_text (map counted_by tallies) ≡ flat_map (λ tally. counted_text (counted_by tally)) tallies
 counted_lines [] = refl
 counted_lines (t ∷ tallies) = ap (λ rest. counted_text (counted_by t) ++ rest) (counted_lines tallies)
 
 -- the first match that ended so
-pub counts_first : (tallies after : List Tally) (new : Tally) → All (λ tally. scores_of tally.ending ≢ scores_of new.ending) tallies → new.matches ≡ 1 → after ≡ tallies ++ new ∷ [] → CountsIn (scores_of new.ending) new.moves (map counted_by tallies) (map counted_by after)
+pub counts_first : (tallies after : List EndingTally) (new : EndingTally) → All (λ tally. scores_of tally.ending ≢ scores_of new.ending) tallies → new.matches ≡ 1 → after ≡ tallies ++ new ∷ [] → CountsIn (scores_of new.ending) new.moves (map counted_by tallies) (map counted_by after)
 counts_first tallies after new apart one is =
     let counted : map counted_by after ≡ map counted_by tallies ++ (record { scores = scores_of new.ending; matches = 1; moves = new.moves }) ∷ [] =
     ap (map counted_by) is ∙ (map-append counted_by tallies (new ∷ []) ∙ (λ i. map counted_by tallies ++ (record { scores = scores_of new.ending; matches = one i; moves = new.moves }) ∷ [])) in
     subst (λ (cs : List Counted). CountsIn (scores_of new.ending) new.moves (map counted_by tallies) cs) (sym counted)
     (first (All-map (λ (counted : Counted). counted.scores ≢ scores_of new.ending) counted_by tallies apart))
 
-pub first_counted : {T E : Type 0} (result : Result T E) (tallies after : List Tally) (new : Tally) → All (λ tally. scores_of tally.ending ≢ scores_of new.ending) tallies → new.matches ≡ 1 → OnOk result (after ≡ tallies ++ new ∷ []) → OnOk result (CountsIn (scores_of new.ending) new.moves (map counted_by tallies) (map counted_by after))
+pub first_counted : {T E : Type 0} (result : Result T E) (tallies after : List EndingTally) (new : EndingTally) → All (λ tally. scores_of tally.ending ≢ scores_of new.ending) tallies → new.matches ≡ 1 → OnOk result (after ≡ tallies ++ new ∷ []) → OnOk result (CountsIn (scores_of new.ending) new.moves (map counted_by tallies) (map counted_by after))
 first_counted (Ok x) tallies after new apart one is = counts_first tallies after new apart one is
 first_counted (Err e) tallies after new apart one is = tt

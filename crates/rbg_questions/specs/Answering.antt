@@ -6,8 +6,8 @@ use Rattle.rbg_moves.specs.Listing.{IsListed}
 use Rattle.rbg_moves.specs.Settling.{IsEndless, MeetsHeavy}
 use Rattle.rbg_questions.specs.declared.question.Question.{Question}
 use Rattle.rbg_questions.specs.declared.question.Question.TheVariants.{Moves, Make, Back, Heard, Place, State, Key, Values, Board, Names, Shape, Random, Search, Sample, Pack, Unpack, Quit}
-use Rattle.rbg_questions.specs.declared.refusal.Refusal.{Refusal}
-use Rattle.rbg_questions.specs.declared.refusal.Refusal.TheVariants.{Long, Illegal, Start, NoPlace, Over, Keeper, Memory}
+use Rattle.rbg_questions.specs.declared.question_error.QuestionError.{QuestionError}
+use Rattle.rbg_questions.specs.declared.question_error.QuestionError.TheVariants.{Long, Illegal, Start, NoPlace, Over, Keeper, Memory}
 use Rattle.rbg_questions.specs.Limits.{longest_line}
 use Rattle.rbg_questions.specs.Questions.{SpellsQuestion}
 use Rattle.rbg_questions.specs.Misfits.{IsMisfit}
@@ -154,7 +154,7 @@ pub data Answers (old : AbstractSession) : Question → (new : AbstractSession) 
 --   not_packed: no place of the game is packed so.
 --   heavy_where_unpacked: the question whether play is finished there is above the limits.
 --   no_memory: it says nothing of the question.
-pub data IsRefused (session : AbstractSession) : Question → Refusal → Type 0 where
+pub data IsRefused (session : AbstractSession) : Question → QuestionError → Type 0 where
   illegal : {pairs : List (ℕ × ℕ)} →
       ((to : AbstractPlace) → ¬ Legal session.game session.place pairs to) →
       IsRefused session (Make pairs) Illegal
@@ -195,13 +195,13 @@ pub data IsRefused (session : AbstractSession) : Question → Refusal → Type 0
   heavy_to_find :
       IsHeavyToFind session.game session.place →
       IsRefused session Place Over
-  unplayed : {seed count : ℕ} {refusal : Refusal} →
+  unplayed : {seed count : ℕ} {refusal : QuestionError} →
       IsUnplayed session.game session.place refusal →
       IsRefused session (Random seed count) refusal
-  unsearched : {seed count : ℕ} {refusal : Refusal} →
+  unsearched : {seed count : ℕ} {refusal : QuestionError} →
       IsUnsearched session.game session.place refusal →
       IsRefused session (Search seed count) refusal
-  unsampled : {seed most : ℕ} {refusal : Refusal} →
+  unsampled : {seed most : ℕ} {refusal : QuestionError} →
       IsUnsampled session.game session.place most refusal →
       IsRefused session (Sample seed most) refusal
   not_packed : {text : Bor (List ℕ)} →
@@ -228,16 +228,16 @@ pub record AnswersIn
 --   too_long: it has more than 65,536 bytes.
 --   no_question: it is not too long, and no question, for this reason.
 --   refused: it is a question that is refused.
-pub data IsLineRefused (session : AbstractSession) (line : List ℕ) : Refusal → Type 0 where
+pub data IsLineRefused (session : AbstractSession) (line : List ℕ) : QuestionError → Type 0 where
   too_long :
       longest_line < length line →
       IsLineRefused session line Long
-  no_question : {refusal : Refusal} →
+  no_question : {refusal : QuestionError} →
       length line ≤ longest_line →
       ((question : Question) → ¬ SpellsQuestion line question) →
       IsMisfit line refusal →
       IsLineRefused session line refusal
-  refused : {question : Question} {refusal : Refusal} →
+  refused : {question : Question} {refusal : QuestionError} →
       SpellsQuestion line question →
       IsRefused session question refusal →
       IsLineRefused session line refusal
@@ -253,6 +253,6 @@ pub data Hears
         SpellsQuestion line question →
         AnswersIn old question new before after →
         Hears old line new before after
-    refused_line : {refusal : Refusal} {before : List ℕ} →
+    refused_line : {refusal : QuestionError} {before : List ℕ} →
         IsLineRefused old line refusal →
         Hears old line old before (before ++ refusal_text refusal)

@@ -5,15 +5,15 @@ use Rattle.std.specs.List.{flat_map}
 use Rattle.hex.specs.Hex.{encode_lower}
 use Rattle.rbg_wire.specs.Lines.{line_of}
 use Rattle.rbg_wire.specs.Messages.{pairs_text}
-use Rattle.rbg_questions.specs.declared.refusal.Refusal.{Refusal}
-use Rattle.rbg_questions.specs.declared.refusal.Refusal.TheVariants.{Long, Empty, Return, Word, Form, Illegal, Start, NoPlace, Over, Keeper, Memory}
+use Rattle.rbg_questions.specs.declared.question_error.QuestionError.{QuestionError}
+use Rattle.rbg_questions.specs.declared.question_error.QuestionError.TheVariants.{Long, Empty, Return, Word, Form, Illegal, Start, NoPlace, Over, Keeper, Memory}
 use Rattle.rbg_rules.specs.Meaning.{AbstractAction, AbstractGame}
 use Rattle.rbg_questions.specs.Chance.{Counted}
 pub use Rattle.rbg_questions.specs.Fields.{names_text, numbers_text}
 use Rattle.rbg_questions.specs.Searching.{Searched, searched_line}
 use Rattle.rbg_questions.specs.Shapes.{action_line, layout_text}
-use Rattle.rbg_questions.specs.declared.standing.Standing.{Standing}
-use Rattle.rbg_questions.specs.declared.standing.Standing.TheVariants.{ToMove, Finished}
+use Rattle.rbg_questions.specs.declared.play_standing.PlayStanding.{PlayStanding}
+use Rattle.rbg_questions.specs.declared.play_standing.PlayStanding.TheVariants.{ToMove, Finished}
 
 -- What a session answers to a question.
 --   moves: some legal moves, and whether they are cut: there are more.
@@ -59,7 +59,7 @@ abbrev pub counted_text : Counted → List ℕ
 counted_text counted = line_of (ending_text counted.scores ++ decimal counted.matches)
 
 -- the answer of how play stands
-abbrev pub standing_answer : Standing → Answer
+abbrev pub standing_answer : PlayStanding → Answer
 standing_answer (ToMove player) = to_move player
 standing_answer (Finished scores) = finished scores.items
 
@@ -90,7 +90,7 @@ answer_text (packed bytes) = line_of (codes "pack " ++ encode_lower bytes)
 answer_text farewell = []
 
 -- the word of a refusal
-abbrev pub refusal_word : Refusal → List ℕ
+abbrev pub refusal_word : QuestionError → List ℕ
 refusal_word Long = codes "long"
 refusal_word Empty = codes "empty"
 refusal_word Return = codes "return"
@@ -104,5 +104,5 @@ refusal_word Keeper = codes "keeper"
 refusal_word Memory = codes "memory"
 
 -- the line of a refusal
-unfoldable pub refusal_text : Refusal → List ℕ
+unfoldable pub refusal_text : QuestionError → List ℕ
 refusal_text refusal = line_of (codes "error " ++ refusal_word refusal)

@@ -3,11 +3,11 @@ use Rattle.std.specs.Prelude.{◌≡◌, ◌≢◌, ℕ, ◌<◌, List, [], ◌�
 use Rattle.std.specs.List.{sum_by}
 use Rattle.rbg_rules.specs.Meaning.{AbstractGame, AbstractPlace, Legal, Finished, IsTooHard, list_moves}
 use Rattle.rbg_moves.specs.Settling.{IsEndless, MeetsHeavy}
-use Rattle.rbg_questions.specs.declared.refusal.Refusal.{Refusal}
-use Rattle.rbg_questions.specs.declared.refusal.Refusal.TheVariants.{Over, Keeper, Memory}
+use Rattle.rbg_questions.specs.declared.question_error.QuestionError.{QuestionError}
+use Rattle.rbg_questions.specs.declared.question_error.QuestionError.TheVariants.{Over, Keeper, Memory}
 use Rattle.rbg_questions.specs.declared.tally.Ending.{Ending}
 use Rattle.rbg_questions.specs.declared.tally.Ending.TheVariants as endings
-use Rattle.rbg_questions.specs.declared.tally.Tally.{Tally}
+use Rattle.rbg_questions.specs.declared.tally.EndingTally.{EndingTally}
 use Rattle.rbg_questions.specs.Limits.{most_played}
 use Rattle.rbg_questions.specs.Sessions.{Leads}
 
@@ -45,7 +45,7 @@ abbrev pub scores_of : Ending → Option (List ℕ)
 scores_of (endings.Finished scores) = Some scores.items
 scores_of endings.Stopped = None
 
-abbrev pub counted_by : Tally → Counted
+abbrev pub counted_by : EndingTally → Counted
 counted_by tally = record { scores = scores_of tally.ending; matches = tally.matches; moves = tally.moves }
 
 -- how many moves of the players matches have, taken together
@@ -71,7 +71,7 @@ pub record AreTallied (game : AbstractGame) (from : AbstractPlace) (count : ℕ)
 --   heavy_to_settle: a question for a move of the keeper after one of them is.
 --   endless: the keeper is to move after 1,000 of its moves after one of them.
 --   no_memory: it says nothing of the place.
-pub data IsUnmoved (game : AbstractGame) (place : AbstractPlace) : Refusal → Type 0 where
+pub data IsUnmoved (game : AbstractGame) (place : AbstractPlace) : QuestionError → Type 0 where
   heavy_to_list : IsTooHard game list_moves place → IsUnmoved game place Over
   heavy_to_settle : {pairs : List (ℕ × ℕ)} {middle : AbstractPlace} →
       Legal game place pairs middle →
@@ -84,7 +84,7 @@ pub data IsUnmoved (game : AbstractGame) (place : AbstractPlace) : Refusal → T
   no_memory : IsUnmoved game place Memory
 
 -- A match from the place isn't played to its end: fewer than 10,000 moves lead to where no move is made.
-pub record IsUnplayed (game : AbstractGame) (from : AbstractPlace) (refusal : Refusal) : Type 0 where
+pub record IsUnplayed (game : AbstractGame) (from : AbstractPlace) (refusal : QuestionError) : Type 0 where
   pub moves : List (List (ℕ × ℕ))
   pub few : length moves < most_played
   pub to : AbstractPlace

@@ -2,8 +2,8 @@
 use Rattle.std.specs.Prelude.{◌≡◌, ◌≢◌, ℕ, ◌==◌, if◌then◌else◌, Bool, true, false, List, [], ◌∷◌, ◌++◌, codes}
 use Rattle.std.specs.List.{list_any}
 use Rattle.std.specs.Str.{bytes_eq}
-use Rattle.rbg_questions.specs.declared.refusal.Refusal.{Refusal}
-use Rattle.rbg_questions.specs.declared.refusal.Refusal.TheVariants.{Empty, Return, Word, Form}
+use Rattle.rbg_questions.specs.declared.question_error.QuestionError.{QuestionError}
+use Rattle.rbg_questions.specs.declared.question_error.QuestionError.TheVariants.{Empty, Return, Word, Form}
 
 -- the words with which questions begin
 abbrev pub question_words : List (List ℕ)
@@ -31,7 +31,7 @@ pub record EndsInReturn (line : List ℕ) : Type 0 where
 --   returns: it ends with a carriage return, as lines of some systems do.
 --   no_word: it begins with no word of a question.
 --   no_form: it begins with one, and goes on otherwise.
-pub data IsMisfit (line : List ℕ) : Refusal → Type 0 where
+pub data IsMisfit (line : List ℕ) : QuestionError → Type 0 where
   no_byte : line ≡ [] → IsMisfit line Empty
   returns : EndsInReturn line → IsMisfit line Return
   no_word : line ≢ [] → ¬ EndsInReturn line → is_question_word (first_word line) ≡ false → IsMisfit line Word

@@ -2,8 +2,8 @@
 use Rattle.std.specs.Prelude.{◌≡◌, ℕ, List}
 use Rattle.rbg_rules.specs.Meaning.{AbstractGame, AbstractPlace}
 use Rattle.rbg_moves.specs.Settling.{IsEndless, MeetsHeavy, Settles}
-use Rattle.rbg_questions.specs.declared.refusal.Refusal.{Refusal}
-use Rattle.rbg_questions.specs.declared.refusal.Refusal.TheVariants.{Over, Keeper, Memory}
+use Rattle.rbg_questions.specs.declared.question_error.QuestionError.{QuestionError}
+use Rattle.rbg_questions.specs.declared.question_error.QuestionError.TheVariants.{Over, Keeper, Memory}
 use Rattle.rbg_questions.specs.Chance.{AreTallied, Counted, IsUnplayed}
 use Rattle.rbg_questions.specs.Sessions.{beginning_of}
 use Rattle.rbg_questions.specs.Summary.{summary_text}
@@ -25,10 +25,10 @@ pub record TellsPlayouts (game : AbstractGame) (count : ℕ) (text : List ℕ) :
 --   endless_at_first: the keeper is to move after 1,000 of its moves.
 --   unplayed: a match from where these moves lead isn't played to its end.
 --   no_memory: it says nothing of the game.
-pub data AreUnplayed (game : AbstractGame) : Refusal → Type 0 where
+pub data AreUnplayed (game : AbstractGame) : QuestionError → Type 0 where
   heavy_to_begin : MeetsHeavy game (beginning_of game) → AreUnplayed game Over
   endless_at_first : IsEndless game (beginning_of game) → AreUnplayed game Keeper
-  unplayed : {place : AbstractPlace} {refusal : Refusal} →
+  unplayed : {place : AbstractPlace} {refusal : QuestionError} →
       Settles game (beginning_of game) place →
       IsUnplayed game place refusal →
       AreUnplayed game refusal

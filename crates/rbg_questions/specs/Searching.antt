@@ -4,8 +4,8 @@ use Rattle.rbg_rules.specs.Meaning.{AbstractGame, AbstractPlace, Finished, IsHea
 use Rattle.rbg_moves.specs.Listing.{IsMoveBefore}
 use Rattle.rbg_wire.specs.Lines.{line_of}
 use Rattle.rbg_wire.specs.Messages.{pairs_text}
-use Rattle.rbg_questions.specs.declared.refusal.Refusal.{Refusal}
-use Rattle.rbg_questions.specs.declared.refusal.Refusal.TheVariants.{Over, Memory}
+use Rattle.rbg_questions.specs.declared.question_error.QuestionError.{QuestionError}
+use Rattle.rbg_questions.specs.declared.question_error.QuestionError.TheVariants.{Over, Memory}
 use Rattle.rbg_questions.specs.Chance.{AreTallied, Counted, IsUnmoved, IsUnplayed, Plays}
 use Rattle.rbg_questions.specs.Counting.{AreLegalMoves}
 use Rattle.rbg_questions.specs.Sessions.{Leads}
@@ -41,9 +41,9 @@ searched_line players searched =
 -- Why no matches are played after each move.
 --   unmoved: the moves aren't listed, or one of them isn't made.
 --   unplayed: a match after one of them isn't played to its end.
-pub data IsUnsearched (game : AbstractGame) (place : AbstractPlace) : Refusal → Type 0 where
-  unmoved : {refusal : Refusal} → IsUnmoved game place refusal → IsUnsearched game place refusal
-  unplayed : {pairs : List (ℕ × ℕ)} {to : AbstractPlace} {refusal : Refusal} →
+pub data IsUnsearched (game : AbstractGame) (place : AbstractPlace) : QuestionError → Type 0 where
+  unmoved : {refusal : QuestionError} → IsUnmoved game place refusal → IsUnsearched game place refusal
+  unplayed : {pairs : List (ℕ × ℕ)} {to : AbstractPlace} {refusal : QuestionError} →
       Leads game place pairs to →
       IsUnplayed game to refusal →
       IsUnsearched game place refusal
@@ -61,8 +61,8 @@ pub record IsSampled (game : AbstractGame) (place : AbstractPlace) (most : ℕ) 
 --   unmoved_on: moves, fewer than so many, lead to where no move is made.
 --   untold: moves, at most so many, lead to where the question whether play is finished is above the limits.
 --   no_memory: it says nothing of the place.
-pub data IsUnsampled (game : AbstractGame) (place : AbstractPlace) (most : ℕ) : Refusal → Type 0 where
-  unmoved_on : {moves : List (List (ℕ × ℕ))} {to : AbstractPlace} {refusal : Refusal} →
+pub data IsUnsampled (game : AbstractGame) (place : AbstractPlace) (most : ℕ) : QuestionError → Type 0 where
+  unmoved_on : {moves : List (List (ℕ × ℕ))} {to : AbstractPlace} {refusal : QuestionError} →
       Plays game place moves to →
       length moves < most →
       IsUnmoved game to refusal →

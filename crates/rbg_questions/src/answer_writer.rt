@@ -7,11 +7,12 @@ ghost use Rattle.rbg_wire.specs.Writing.{Appends, AppendsAll};
 ghost use Rattle.rbg_questions.specs.Answers.{moves as moves_answer, state as state_answer, key as key_answer, values as values_answer, board as board_answer, by_chance, answer_text, counted_text, cut_text, ending_text, numbers_text, refusal_text, standing_answer};
 ghost use Rattle.rbg_questions.specs.Chance.{counted_by, scores_of};
 
-use crate::refusal::Refusal;
-use crate::standing::Standing;
-use crate::tally::{Ending, Tally};
+use crate::number_writer::{put_pairs, put_spaced};
+use crate::play_standing::PlayStanding;
+use crate::question_error::QuestionError;
+use crate::tally::{Ending, EndingTally};
 use rbg_base::{Memory, Pair, Piece};
-use rbg_wire::{all_or_nothing, put_number, write_number, write_pairs};
+use rbg_wire::{all_or_nothing, put_number, write_number};
 
 /// Appends the lines of legal moves. On an error the bytes are unchanged.
 pub fn write_moves(moves: &[&[Pair]], cut: bool, out: &mut Vec<u8>) -> Result<(), Memory>
@@ -24,7 +25,7 @@ pub fn write_moves(moves: &[&[Pair]], cut: bool, out: &mut Vec<u8>) -> Result<()
 }
 
 /// Appends the line of how play stands. On an error the bytes are unchanged.
-pub fn write_standing(standing: &Standing, out: &mut Vec<u8>) -> Result<(), Memory>
+pub fn write_standing(standing: &PlayStanding, out: &mut Vec<u8>) -> Result<(), Memory>
     ensures { AppendsAll out.old.items out.new.items (answer_text (standing_answer standing.now)) result }
 {
     let len = out.len();
@@ -32,21 +33,26 @@ pub fn write_standing(standing: &Standing, out: &mut Vec<u8>) -> Result<(), Memo
     all_or_nothing(written, len, out)
 }
 
+/// All that is told of a place.
+#[derive(Drop)]
+pub(crate) struct StateLines<'a> {
+    /// How many legal moves it has.
+    pub(crate) count: u64,
+    pub(crate) key: u64,
+    pub(crate) standing: &'a PlayStanding,
+    pub(crate) pieces: &'a [Piece],
+    pub(crate) values: &'a [u32],
+}
+
 /// Appends the lines of all that is told of a place. On an error the bytes are unchanged.
-pub fn write_state(
-    count: u64,
-    key: u64,
-    standing: &Standing,
-    pieces: &[Piece],
-    values: &[u32],
-    out: &mut Vec<u8>,
-) -> Result<(), Memory>
+pub(crate) fn write_state(state: &StateLines, out: &mut Vec<u8>) -> Result<(), Memory>
     ensures { AppendsAll out.old.items out.new.items
-        (answer_text (state_answer count key (standing_answer standing.now) pieces.now values.now))
+        (answer_text (state_answer state.now.count state.now.key
+        (standing_answer state.now.standing.now) state.now.pieces.now state.now.values.now))
         result }
 {
     let len = out.len();
-    let written = put_state(count, key, standing, pieces, values, out);
+    let written = put_state(state, out);
     all_or_nothing(written, len, out)
 }
 
@@ -80,7 +86,7 @@ pub fn write_board(pieces: &[Piece], out: &mut Vec<u8>) -> Result<(), Memory>
 }
 
 /// Appends the lines of matches that were played by chance. On an error the bytes are unchanged.
-pub fn write_matches(count: u64, tallies: &[Tally], out: &mut Vec<u8>) -> Result<(), Memory>
+pub fn write_matches(count: u64, tallies: &[EndingTally], out: &mut Vec<u8>) -> Result<(), Memory>
     ensures { AppendsAll out.old.items out.new.items
         (answer_text (by_chance count (map counted_by tallies.now))) result }
 {
@@ -94,7 +100,7 @@ pub fn write_matches(count: u64, tallies: &[Tally], out: &mut Vec<u8>) -> Result
 pub(crate) fn write_sampled(
     made: u64,
     lines: &[u8],
-    standing: &Standing,
+    standing: &PlayStanding,
     out: &mut Vec<u8>,
 ) -> Result<(), Memory>
     ensures { AppendsAll out.old.items out.new.items
@@ -108,21 +114,21 @@ pub(crate) fn write_sampled(
 
 /// Appends the line of a refusal. On an error the bytes are unchanged.
 #[tactic(auto, unfolding(crate::specs::Answers::refusal_text))]
-pub fn write_refusal(refusal: Refusal, out: &mut Vec<u8>) -> Result<(), Memory>
+pub fn write_refusal(refusal: QuestionError, out: &mut Vec<u8>) -> Result<(), Memory>
     ensures { AppendsAll out.old.items out.new.items (refusal_text refusal) result }
 {
     match refusal {
-        Refusal::Long => out.extend_from_slice(b"error long\n"),
-        Refusal::Empty => out.extend_from_slice(b"error empty\n"),
-        Refusal::Return => out.extend_from_slice(b"error return\n"),
-        Refusal::Word => out.extend_from_slice(b"error word\n"),
-        Refusal::Form => out.extend_from_slice(b"error form\n"),
-        Refusal::Illegal => out.extend_from_slice(b"error illegal\n"),
-        Refusal::Start => out.extend_from_slice(b"error start\n"),
-        Refusal::NoPlace => out.extend_from_slice(b"error place\n"),
-        Refusal::Over => out.extend_from_slice(b"error over\n"),
-        Refusal::Keeper => out.extend_from_slice(b"error keeper\n"),
-        Refusal::Memory => out.extend_from_slice(b"error memory\n"),
+        QuestionError::Long => out.extend_from_slice(b"error long\n"),
+        QuestionError::Empty => out.extend_from_slice(b"error empty\n"),
+        QuestionError::Return => out.extend_from_slice(b"error return\n"),
+        QuestionError::Word => out.extend_from_slice(b"error word\n"),
+        QuestionError::Form => out.extend_from_slice(b"error form\n"),
+        QuestionError::Illegal => out.extend_from_slice(b"error illegal\n"),
+        QuestionError::Start => out.extend_from_slice(b"error start\n"),
+        QuestionError::NoPlace => out.extend_from_slice(b"error place\n"),
+        QuestionError::Over => out.extend_from_slice(b"error over\n"),
+        QuestionError::Keeper => out.extend_from_slice(b"error keeper\n"),
+        QuestionError::Memory => out.extend_from_slice(b"error memory\n"),
     }
 }
 
@@ -167,21 +173,21 @@ fn put_lent_lines(moves: &[&[Pair]], out: &mut Vec<u8>) -> Result<(), Memory>
 pub(crate) fn put_move_line(pairs: &[Pair], out: &mut Vec<u8>) -> Result<(), Memory>
     ensures { Appends out.old.items out.new.items (line_of (pairs_text pairs.now)) result }
 {
-    write_pairs(pairs, out)?;
+    put_pairs(pairs, out)?;
     out.extend_from_slice(b"\n")
 }
 
 #[tactic(auto, unfolding(crate::specs::Answers::answer_text))]
-fn put_standing(standing: &Standing, out: &mut Vec<u8>) -> Result<(), Memory>
+fn put_standing(standing: &PlayStanding, out: &mut Vec<u8>) -> Result<(), Memory>
     ensures { Appends out.old.items out.new.items
         (answer_text (standing_answer standing.now)) result }
 {
     match standing {
-        Standing::ToMove { player } => {
+        PlayStanding::ToMove { player } => {
             put_number(b"player ", u64::from(*player), out)?;
             out.extend_from_slice(b"\n")
         }
-        Standing::Finished { scores } => {
+        PlayStanding::Finished { scores } => {
             out.extend_from_slice(b"finished")?;
             put_scores(scores.as_slice(), out)?;
             out.extend_from_slice(b"\n")
@@ -200,22 +206,16 @@ pub fn put_scores(scores: &[u64], out: &mut Vec<u8>) -> Result<(), Memory>
 }
 
 #[tactic(auto, unfolding(crate::specs::Answers::answer_text))]
-fn put_state(
-    count: u64,
-    key: u64,
-    standing: &Standing,
-    pieces: &[Piece],
-    values: &[u32],
-    out: &mut Vec<u8>,
-) -> Result<(), Memory>
+fn put_state(state: &StateLines, out: &mut Vec<u8>) -> Result<(), Memory>
     ensures { Appends out.old.items out.new.items
-        (answer_text (state_answer count key (standing_answer standing.now) pieces.now values.now))
+        (answer_text (state_answer state.now.count state.now.key
+        (standing_answer state.now.standing.now) state.now.pieces.now state.now.values.now))
         result }
 {
-    put_state_head(count, key, out)?;
-    put_standing(standing, out)?;
-    put_board(pieces, out)?;
-    put_values(values, out)
+    put_state_head(state.count, state.key, out)?;
+    put_standing(state.standing, out)?;
+    put_board(state.pieces, out)?;
+    put_values(state.values, out)
 }
 
 /// Appends the first line of all that is told of a place.
@@ -231,7 +231,7 @@ fn put_state_head(count: u64, key: u64, out: &mut Vec<u8>) -> Result<(), Memory>
 fn put_sampled(
     made: u64,
     lines: &[u8],
-    standing: &Standing,
+    standing: &PlayStanding,
     out: &mut Vec<u8>,
 ) -> Result<(), Memory>
     ensures { Appends out.old.items out.new.items
@@ -272,7 +272,7 @@ fn put_value_numbers(values: &[u32], out: &mut Vec<u8>) -> Result<(), Memory>
     ensures { Appends out.old.items out.new.items (numbers_text values.now) result }
 {
     for value in values {
-        put_number(b" ", u64::from(*value), out)?;
+        put_spaced(*value, out)?;
     }
     Ok(())
 }
@@ -290,13 +290,13 @@ pub(crate) fn put_pieces(pieces: &[Piece], out: &mut Vec<u8>) -> Result<(), Memo
     ensures { Appends out.old.items out.new.items (numbers_text pieces.now) result }
 {
     for piece in pieces {
-        put_number(b" ", u64::from(*piece), out)?;
+        put_spaced(u32::from(*piece), out)?;
     }
     Ok(())
 }
 
 #[tactic(auto, unfolding(crate::specs::Answers::answer_text))]
-fn put_matches(count: u64, tallies: &[Tally], out: &mut Vec<u8>) -> Result<(), Memory>
+fn put_matches(count: u64, tallies: &[EndingTally], out: &mut Vec<u8>) -> Result<(), Memory>
     ensures { Appends out.old.items out.new.items
         (answer_text (by_chance count (map counted_by tallies.now))) result }
 {
@@ -311,14 +311,14 @@ fn put_matches_head(count: u64, out: &mut Vec<u8>) -> Result<(), Memory>
     out.extend_from_slice(b"\n")
 }
 
-fn put_counted(tallies: &[Tally], out: &mut Vec<u8>) -> Result<(), Memory>
+fn put_counted(tallies: &[EndingTally], out: &mut Vec<u8>) -> Result<(), Memory>
     ensures { Appends out.old.items out.new.items
         (flat_map counted_text (map counted_by tallies.now)) result }
 {
     put_tallies(tallies, out)
 }
 
-fn put_tallies(tallies: &[Tally], out: &mut Vec<u8>) -> Result<(), Memory>
+fn put_tallies(tallies: &[EndingTally], out: &mut Vec<u8>) -> Result<(), Memory>
     ensures { Appends out.old.items out.new.items
         (flat_map (λ tally. counted_text (counted_by tally)) tallies.now) result }
 {
@@ -328,7 +328,7 @@ fn put_tallies(tallies: &[Tally], out: &mut Vec<u8>) -> Result<(), Memory>
     Ok(())
 }
 
-fn put_tally(tally: &Tally, out: &mut Vec<u8>) -> Result<(), Memory>
+fn put_tally(tally: &EndingTally, out: &mut Vec<u8>) -> Result<(), Memory>
     ensures { Appends out.old.items out.new.items (counted_text (counted_by tally.now)) result }
 {
     put_ending(&tally.ending, out)?;

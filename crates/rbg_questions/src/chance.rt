@@ -6,8 +6,9 @@ ghost use Rattle.rbg_questions.specs.Limits.{IsCount};
 ghost use Rattle.rbg_questions.specs.internal.Moving.{IsPlayedTo, MovesOn};
 
 use crate::chosen::Chosen;
-use crate::refusal::Refusal;
-use crate::tally::{Ending, Played, Tally, count_in};
+use crate::draw::Draw;
+use crate::question_error::QuestionError;
+use crate::tally::{Ending, EndingTally, Played, count_in};
 use rand_core::{Rng, SeedableRng};
 use rand_pcg::Pcg32;
 use rbg_moves::{Place, PlayedGame, Workspace};
@@ -22,20 +23,19 @@ pub fn play_matches(
     alloc: Global,
     game: &PlayedGame,
     from: &Place,
-    seed: u64,
-    count: u64,
+    draw: Draw,
     workspace: &mut Workspace,
-) -> Result<Vec<Tally>, Refusal>
+) -> Result<Vec<EndingTally>, QuestionError>
     requires place { IsPlaceOf game.now from.now }
-    requires count { IsCount count }
+    requires count { IsCount draw.count }
     ensures tallied { IfOk result (λ tallies.
-        AreTallied game.now from.now count (map counted_by tallies.items)) }
+        AreTallied game.now from.now draw.count (map counted_by tallies.items)) }
     ensures unplayed { IfErr result (IsUnplayed game.now from.now) }
 {
-    let mut chance = Pcg32::seed_from_u64(seed);
+    let mut chance = Pcg32::seed_from_u64(draw.seed);
     let mut chosen = Chosen::counted();
     let mut tallies = Vec::new(alloc);
-    for _ in 0..count {
+    for _ in 0..draw.count {
         let played = play_match(game, from, &mut chance, &mut chosen, workspace)?;
         count_in(played, &mut tallies)?;
     }
@@ -50,7 +50,7 @@ pub fn play_seeded(
     seed: u64,
     chosen: &mut Chosen,
     workspace: &mut Workspace,
-) -> Result<Played, Refusal>
+) -> Result<Played, QuestionError>
     requires { IsPlaceOf game.now from.now }
     ensures ends { IfOk result (λ played.
         IsPlayedTo game.now from.now (scores_of played.ending) played.moves) }
@@ -67,7 +67,7 @@ fn play_match(
     chance: &mut Pcg32,
     chosen: &mut Chosen,
     workspace: &mut Workspace,
-) -> Result<Played, Refusal>
+) -> Result<Played, QuestionError>
     requires { IsPlaceOf game.now from.now }
     ensures ends { IfOk result (λ played.
         IsPlayedTo game.now from.now (scores_of played.ending) played.moves) }
@@ -98,7 +98,7 @@ fn move_on(
     chance: &mut Pcg32,
     chosen: &mut Chosen,
     workspace: &mut Workspace,
-) -> Result<bool, Refusal>
+) -> Result<bool, QuestionError>
     requires { IsPlaceOf game.now place.old }
     ensures moves { IfOk result (λ moved. MovesOn game.now place.old moved place.new) }
     ensures in_game { OnOk result (IsPlaceOf game.now place.new) }

@@ -38,6 +38,13 @@ const ENDED: Counts = Counts {
     ended: 1,
 };
 
+/// What follows a first move: so many further moves, and whether the ends are asked for after the last one.
+#[derive(Clone, Copy)]
+struct Further {
+    moves: u8,
+    extent: Extent,
+}
+
 impl Counts {
     /// Both together.
     fn join(self, other: Counts) -> Option<Counts>
@@ -94,30 +101,34 @@ fn count_from(
     }
     game.settle(place, workspace)?;
     let listed = list_all(game, place, workspace)?;
-    let counts = count_after(game, place, &listed, moves - 1, extent, workspace)?;
+    let further = Further {
+        moves: moves - 1,
+        extent,
+    };
+    let counts = count_after(game, place, &listed, further, workspace)?;
     workspace.keep_moves(listed);
     Ok(counts)
 }
 
-/// Counts the sequences that begin with one of these moves and have so many further ones.
+/// Counts the sequences that begin with one of these moves.
 #[cycle(counting)]
 fn count_after(
     game: &PlayedGame,
     place: &Place,
     firsts: &MoveList,
-    further: u8,
-    extent: Extent,
+    further: Further,
     workspace: &mut Workspace,
 ) -> Result<Counts, CountError>
     requires place { IsPlaceOf game.now place.now }
     requires legal { All (IsLegal game.now place.now) firsts.now }
     requires different { AllPairs (λ a b. a ≢ b) firsts.now }
     ensures counted { IfOk result (λ counts.
-        Sums (AreCountedAfter game.now further extent place.now) firsts.now counts.sequences
-        counts.ended) }
-    ensures refused { IfErr result (IsNotCountedFrom game.now (suc further) extent place.now) }
+        Sums (AreCountedAfter game.now further.moves further.extent place.now) firsts.now
+        counts.sequences counts.ended) }
+    ensures refused { IfErr result
+        (IsNotCountedFrom game.now (suc further.moves) further.extent place.now) }
 {
-    if further == 0 && !extent.asks_ends() {
+    if further.moves == 0 && !further.extent.asks_ends() {
         return Ok(going(firsts));
     }
     let mut counts = NONE;
@@ -125,7 +136,7 @@ fn count_after(
     for index in 0..firsts.len() {
         let pairs = firsts.get(index);
         lead(game, place, pairs, &mut to)?;
-        let after = count_from(game, &mut to, further, extent, workspace)?;
+        let after = count_from(game, &mut to, further.moves, further.extent, workspace)?;
         counts = counts.join(after).ok_or(CountError::TooMany)?;
     }
     workspace.keep(to);

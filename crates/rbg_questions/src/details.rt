@@ -3,7 +3,7 @@
 
 use crate::answer_writer::put_scores;
 use crate::survey::Survey;
-use crate::tally::{Ending, Tally};
+use crate::tally::{Ending, EndingTally};
 use rbg_base::{Memory, Player};
 use rbg_rules::Game;
 use rbg_wire::{put_number, write_number};
@@ -14,7 +14,7 @@ use rbg_wire::{put_number, write_number};
 pub fn put_details(
     game: &Game,
     count: u64,
-    tallies: &[Tally],
+    tallies: &[EndingTally],
     survey: &Survey,
     out: &mut Vec<u8>,
 ) -> Result<(), Memory> {
@@ -37,7 +37,7 @@ fn put_lengths(moves: u64, count: u64, survey: &Survey, out: &mut Vec<u8>) -> Re
 }
 
 /// Appends the lines of the best scores.
-fn put_best(game: &Game, tallies: &[Tally], out: &mut Vec<u8>) -> Result<(), Memory> {
+fn put_best(game: &Game, tallies: &[EndingTally], out: &mut Vec<u8>) -> Result<(), Memory> {
     for index in 0..game.players() {
         let name = game.player_name(index as Player + 1);
         put_best_of(name, best_in(index, tallies), out)?;
@@ -54,7 +54,7 @@ fn put_best_of(name: &str, matches: u64, out: &mut Vec<u8>) -> Result<(), Memory
 }
 
 /// Appends the line of the seed of the first match of each way of ending.
-fn put_seeds(tallies: &[Tally], seeds: &[u64], out: &mut Vec<u8>) -> Result<(), Memory> {
+fn put_seeds(tallies: &[EndingTally], seeds: &[u64], out: &mut Vec<u8>) -> Result<(), Memory> {
     for (index, tally) in tallies.iter().enumerate() {
         if let Some(seed) = seeds.get(index) {
             put_seed(*seed, &tally.ending, out)?;
@@ -86,7 +86,7 @@ fn put_mean(total: u64, count: u64, out: &mut Vec<u8>) -> Result<(), Memory> {
 }
 
 /// How many moves the players made in all matches together.
-fn moves_in(tallies: &[Tally]) -> u64 {
+fn moves_in(tallies: &[EndingTally]) -> u64 {
     let mut sum: u64 = 0;
     for tally in tallies {
         sum = sum.saturating_add(tally.moves);
@@ -95,7 +95,7 @@ fn moves_in(tallies: &[Tally]) -> u64 {
 }
 
 /// In how many matches a player alone had the best score. The players are numbered from 0.
-fn best_in(player: usize, tallies: &[Tally]) -> u64 {
+fn best_in(player: usize, tallies: &[EndingTally]) -> u64 {
     let mut sum: u64 = 0;
     for tally in tallies {
         if is_best(player, &tally.ending) {
@@ -106,7 +106,7 @@ fn best_in(player: usize, tallies: &[Tally]) -> u64 {
 }
 
 /// In how many matches several players had the best score.
-fn draws_in(tallies: &[Tally]) -> u64 {
+fn draws_in(tallies: &[EndingTally]) -> u64 {
     let mut sum: u64 = 0;
     for tally in tallies {
         if is_draw(&tally.ending) {

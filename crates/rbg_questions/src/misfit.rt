@@ -4,7 +4,7 @@ ghost use Rattle.std.specs.List.{list_any};
 ghost use Rattle.std.specs.Str.{bytes_eq};
 ghost use Rattle.rbg_questions.specs.Misfits.{IsMisfit, first_word, is_question_word};
 
-use crate::refusal::Refusal;
+use crate::question_error::QuestionError;
 use rbg_wire::cut_at;
 
 /// The words with which questions begin.
@@ -14,19 +14,19 @@ const WORDS: [&str; 17] = [
 ];
 
 /// Why a line that is no question is none.
-pub(crate) fn misfit_of(line: &[u8]) -> Refusal
+pub(crate) fn misfit_of(line: &[u8]) -> QuestionError
     ensures { IsMisfit line.now result }
 {
     let Some((last, _)) = line.split_last() else {
-        return Refusal::Empty;
+        return QuestionError::Empty;
     };
     if *last == b'\r' {
-        return Refusal::Return;
+        return QuestionError::Return;
     }
     if is_word(first_word(line)) {
-        Refusal::Form
+        QuestionError::Form
     } else {
-        Refusal::Word
+        QuestionError::Word
     }
 }
 

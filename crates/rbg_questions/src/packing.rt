@@ -9,7 +9,7 @@ ghost use Rattle.rbg_questions.specs.internal.Places.{IsNotUnpacked};
 ghost use Rattle.rbg_questions.specs.Packing.{in_two, in_four, numbers_of, packed_of, packed_text, position_of};
 
 use crate::packing_writer::{FORM, put_packed};
-use crate::refusal::Refusal;
+use crate::question_error::QuestionError;
 use hex::FromHexError;
 use rbg_base::{Memory, Position};
 use rbg_moves::{Place, PlayedGame};
@@ -28,14 +28,18 @@ pub fn pack(alloc: Global, game: &Game, place: &Place) -> Result<Vec<u8>, Memory
 }
 
 /// The place of this text, if a place of the game is packed so.
-pub(crate) fn place_in(alloc: Global, game: &PlayedGame, text: &[u8]) -> Result<Place, Refusal>
+pub(crate) fn place_in(
+    alloc: Global,
+    game: &PlayedGame,
+    text: &[u8],
+) -> Result<Place, QuestionError>
     ensures fits { IfOk result (IsPlaceOf game.now) }
     ensures text { IfOk result (λ place. text.now ≡ packed_text place) }
     ensures refused { IfErr result (IsNotUnpacked game.now text.now) }
 {
     match unpack_text(alloc, game.as_game(), text)? {
         Some(place) => Ok(place),
-        None => Err(Refusal::NoPlace),
+        None => Err(QuestionError::NoPlace),
     }
 }
 

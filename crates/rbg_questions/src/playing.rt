@@ -7,10 +7,11 @@ ghost use Rattle.rbg_questions.specs.Playing.{ArePlayouts, AreUnplayed, TellsPla
 
 use crate::chance::play_seeded;
 use crate::chosen::Chosen;
-use crate::refusal::Refusal;
+use crate::draw::Draw;
+use crate::question_error::QuestionError;
 use crate::summary_writer::put_summary;
 use crate::survey::Survey;
-use crate::tally::{Tally, count_in};
+use crate::tally::{EndingTally, count_in};
 use rbg_moves::{Place, PlayedGame, Workspace};
 use std::alloc::Global;
 
@@ -20,14 +21,19 @@ pub struct Matches {
     /// What is told of them in lines.
     pub text: Vec<u8>,
     /// How they ended, in the order in which each way was first met.
-    pub tallies: Vec<Tally>,
+    pub tallies: Vec<EndingTally>,
     /// What else was met.
     pub survey: Survey,
 }
 
 /// Plays so many matches by chance from where play begins, and tells of them in lines. The first one has this seed, and each
 /// other one the next seed, so a match is played again by its seed alone.
-pub fn playouts(alloc: Global, game: &PlayedGame, seed: u64, count: u64) -> Result<Matches, Refusal>
+pub fn playouts(
+    alloc: Global,
+    game: &PlayedGame,
+    seed: u64,
+    count: u64,
+) -> Result<Matches, QuestionError>
     requires { IsCount count }
     ensures told { IfOk result (λ made. TellsPlayouts game.now count made.text.items) }
     ensures played { IfOk result (λ made.
@@ -35,7 +41,8 @@ pub fn playouts(alloc: Global, game: &PlayedGame, seed: u64, count: u64) -> Resu
     ensures unplayed { IfErr result (AreUnplayed game.now) }
 {
     let mut survey = Survey::new(alloc);
-    let tallies = play_from_start(alloc, game, seed, count, &mut survey)?;
+    let draw = Draw { seed, count };
+    let tallies = play_from_start(alloc, game, draw, &mut survey)?;
     let mut text = Vec::new(alloc);
     put_summary(game.as_game(), count, tallies.as_slice(), &mut text)?;
     Ok(Matches {
@@ -49,58 +56,53 @@ pub fn playouts(alloc: Global, game: &PlayedGame, seed: u64, count: u64) -> Resu
 fn play_from_start(
     alloc: Global,
     game: &PlayedGame,
-    seed: u64,
-    count: u64,
+    draw: Draw,
     survey: &mut Survey,
-) -> Result<Vec<Tally>, Refusal>
-    requires { IsCount count }
+) -> Result<Vec<EndingTally>, QuestionError>
+    requires { IsCount draw.count }
     ensures played { IfOk result (λ tallies.
-        ArePlayouts game.now count (map counted_by tallies.items)) }
+        ArePlayouts game.now draw.count (map counted_by tallies.items)) }
     ensures unplayed { IfErr result (AreUnplayed game.now) }
 {
     let mut workspace = Workspace::new(alloc);
-    play_on(alloc, game, seed, count, survey, &mut workspace)
+    play_on(game, draw, survey, &mut workspace)
 }
 
 /// The same with a workspace that is lent.
 fn play_on(
-    alloc: Global,
     game: &PlayedGame,
-    seed: u64,
-    count: u64,
+    draw: Draw,
     survey: &mut Survey,
     workspace: &mut Workspace,
-) -> Result<Vec<Tally>, Refusal>
-    requires { IsCount count }
+) -> Result<Vec<EndingTally>, QuestionError>
+    requires { IsCount draw.count }
     ensures played { IfOk result (λ tallies.
-        ArePlayouts game.now count (map counted_by tallies.items)) }
+        ArePlayouts game.now draw.count (map counted_by tallies.items)) }
     ensures unplayed { IfErr result (AreUnplayed game.now) }
 {
     let mut place = game.start()?;
     game.settle(&mut place, workspace)?;
-    let tallies = play_all(alloc, game, &place, seed, count, survey, workspace)?;
+    let tallies = play_all(game, &place, draw, survey, workspace)?;
     Ok(tallies)
 }
 
 /// Plays so many matches by chance from a place, and counts how they end.
 fn play_all(
-    alloc: Global,
     game: &PlayedGame,
     from: &Place,
-    seed: u64,
-    count: u64,
+    draw: Draw,
     survey: &mut Survey,
     workspace: &mut Workspace,
-) -> Result<Vec<Tally>, Refusal>
+) -> Result<Vec<EndingTally>, QuestionError>
     requires place { IsPlaceOf game.now from.now }
-    requires count { IsCount count }
+    requires count { IsCount draw.count }
     ensures tallied { IfOk result (λ tallies.
-        AreTallied game.now from.now count (map counted_by tallies.items)) }
+        AreTallied game.now from.now draw.count (map counted_by tallies.items)) }
     ensures unplayed { IfErr result (IsUnplayed game.now from.now) }
 {
-    let mut tallies = Vec::new(alloc);
-    let mut seeded = seed;
-    for _ in 0..count {
+    let mut tallies = Vec::new(*survey.seeds.allocator());
+    let mut seeded = draw.seed;
+    for _ in 0..draw.count {
         let played = play_seeded(game, from, seeded, &mut survey.chosen, workspace)?;
         survey.add(seeded, &played, tallies.as_slice())?;
         count_in(played, &mut tallies)?;
@@ -110,7 +112,7 @@ fn play_all(
 }
 
 /// The moves of the match by chance from where play begins that has this seed: a line of pairs for each.
-pub fn moves_of(alloc: Global, game: &PlayedGame, seed: u64) -> Result<Vec<u8>, Refusal> {
+pub fn moves_of(alloc: Global, game: &PlayedGame, seed: u64) -> Result<Vec<u8>, QuestionError> {
     let mut chosen = Chosen::written(alloc);
     let mut workspace = Workspace::new(alloc);
     play_once(game, seed, &mut chosen, &mut workspace)?;
@@ -122,7 +124,7 @@ fn play_once(
     seed: u64,
     chosen: &mut Chosen,
     workspace: &mut Workspace,
-) -> Result<(), Refusal> {
+) -> Result<(), QuestionError> {
     let mut place = game.start()?;
     game.settle(&mut place, workspace)?;
     let _played = play_seeded(game, &place, seed, chosen, workspace)?;

@@ -10,7 +10,8 @@ ghost use Rattle.rbg_questions.specs.internal.Searching.{IsMade, TellsMove, Writ
 
 use crate::answer_writer::{put_move_line, write_sampled};
 use crate::chance::choose;
-use crate::refusal::Refusal;
+use crate::draw::Draw;
+use crate::question_error::QuestionError;
 use crate::stepping::standing_at;
 use rand_core::SeedableRng;
 use rand_pcg::Pcg32;
@@ -21,19 +22,18 @@ use rbg_moves::{Place, PlayedGame, Workspace};
 pub(crate) fn write_sample(
     game: &PlayedGame,
     from: &Place,
-    seed: u64,
-    most: u64,
+    draw: Draw,
     workspace: &mut Workspace,
     out: &mut Vec<u8>,
-) -> Result<(), Refusal>
+) -> Result<(), QuestionError>
     requires { IsPlaceOf game.now from.now }
-    ensures sampled { OnOk result (WritesSample game.now from.now most out.old.items out.new.items) }
-    ensures unsampled { IfErr result (IsUnsampled game.now from.now most) }
+    ensures sampled { OnOk result (WritesSample game.now from.now draw.count out.old.items out.new.items) }
+    ensures unsampled { IfErr result (IsUnsampled game.now from.now draw.count) }
     ensures kept { OnErr result (out.new.items ≡ out.old.items) }
 {
     let mut lines = Vec::new(*out.allocator());
     let mut place = workspace.copy_of(from)?;
-    let made = make_moves(game, &mut place, seed, most, &mut lines, workspace)?;
+    let made = make_moves(game, &mut place, draw, &mut lines, workspace)?;
     let standing = standing_at(game, &place, workspace)?;
     workspace.keep(place);
     write_sampled(made, lines.as_slice(), &standing, out)?;
@@ -45,25 +45,24 @@ pub(crate) fn write_sample(
 fn make_moves(
     game: &PlayedGame,
     place: &mut Place,
-    seed: u64,
-    most: u64,
+    draw: Draw,
     lines: &mut Vec<u8>,
     workspace: &mut Workspace,
-) -> Result<u64, Refusal>
+) -> Result<u64, QuestionError>
     requires place { IsPlaceOf game.now place.old }
     requires none { lines.old.items ≡ [] }
     ensures made { IfOk result (λ made.
-        IsMade game.now place.old most made place.new lines.new.items) }
+        IsMade game.now place.old draw.count made place.new lines.new.items) }
     ensures in_game { OnOk result (IsPlaceOf game.now place.new) }
-    ensures unsampled { IfErr result (IsUnsampled game.now place.old most) }
+    ensures unsampled { IfErr result (IsUnsampled game.now place.old draw.count) }
 {
-    let mut chance = Pcg32::seed_from_u64(seed);
-    for made in 0..most {
+    let mut chance = Pcg32::seed_from_u64(draw.seed);
+    for made in 0..draw.count {
         if !make_one(game, place, &mut chance, lines, workspace)? {
             return Ok(made);
         }
     }
-    Ok(most)
+    Ok(draw.count)
 }
 
 /// Makes a move by chance, and the keeper's moves after it, and appends the line of the move. False where there is no
@@ -74,7 +73,7 @@ fn make_one(
     chance: &mut Pcg32,
     lines: &mut Vec<u8>,
     workspace: &mut Workspace,
-) -> Result<bool, Refusal>
+) -> Result<bool, QuestionError>
     requires { IsPlaceOf game.now place.old }
     ensures moves { IfOk result (λ moved.
         TellsMove game.now place.old lines.old.items moved place.new lines.new.items) }

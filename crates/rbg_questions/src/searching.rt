@@ -12,12 +12,13 @@ ghost use Rattle.rbg_questions.specs.internal.Searching.{WritesMoves, WritesOne,
 
 use crate::answer_writer::put_head;
 use crate::chance::play_matches;
+use crate::draw::{Draw, Trials};
 use crate::ordering::in_order;
-use crate::refusal::Refusal;
+use crate::question_error::QuestionError;
 use crate::stepping::{is_in_memory, moves_at, step};
 use crate::summary_writer::put_mean;
 use crate::sums::{Counting, add_scores, sum_of};
-use crate::tally::Tally;
+use crate::tally::EndingTally;
 use rbg_base::{Memory, MoveList, Pair};
 use rbg_moves::{Place, PlayedGame, Workspace};
 use rbg_rules::Game;
@@ -28,14 +29,13 @@ use rbg_wire::{write_number, write_pairs};
 pub(crate) fn write_search(
     game: &PlayedGame,
     place: &Place,
-    seed: u64,
-    count: u64,
+    draw: Draw,
     workspace: &mut Workspace,
     out: &mut Vec<u8>,
-) -> Result<(), Refusal>
+) -> Result<(), QuestionError>
     requires place { IsPlaceOf game.now place.now }
-    requires count { IsCount count }
-    ensures searched { OnOk result (WritesSearch game.now place.now count out.old.items
+    requires count { IsCount draw.count }
+    ensures searched { OnOk result (WritesSearch game.now place.now draw.count out.old.items
         out.new.items) }
     ensures unsearched { IfErr result (IsUnsearched game.now place.now) }
     ensures kept { OnErr result (out.new.items ≡ out.old.items) }
@@ -43,7 +43,8 @@ pub(crate) fn write_search(
     let gathered = moves_at(game, place, usize::MAX, workspace)?;
     is_in_memory(&gathered.moves);
     let len = out.len();
-    let written = put_search(game, place, seed, count, &gathered.moves, workspace, out);
+    let trials = Trials { game, place, draw };
+    let written = put_search(&trials, &gathered.moves, workspace, out);
     workspace.keep_moves(gathered.moves);
     if written.is_err() {
         out.truncate(len);
@@ -53,78 +54,75 @@ pub(crate) fn write_search(
 
 /// Plays matches after each of the moves, in their order.
 fn put_search(
-    game: &PlayedGame,
-    place: &Place,
-    seed: u64,
-    count: u64,
+    trials: &Trials,
     moves: &MoveList,
     workspace: &mut Workspace,
     out: &mut Vec<u8>,
-) -> Result<(), Refusal>
-    requires place { IsPlaceOf game.now place.now }
-    requires count { IsCount count }
-    requires moves { AreLegalMoves game.now place.now moves.now }
-    ensures searched { OnOk result (WritesSearch game.now place.now count out.old.items
-        out.new.items) }
-    ensures unsearched { IfErr result (IsUnsearched game.now place.now) }
+) -> Result<(), QuestionError>
+    requires place { IsPlaceOf trials.now.game.now trials.now.place.now }
+    requires count { IsCount trials.now.draw.count }
+    requires moves { AreLegalMoves trials.now.game.now trials.now.place.now moves.now }
+    ensures searched { OnOk result (WritesSearch trials.now.game.now trials.now.place.now
+        trials.now.draw.count out.old.items out.new.items) }
+    ensures unsearched { IfErr result (IsUnsearched trials.now.game.now trials.now.place.now) }
     ensures kept { take (length out.old.items) out.new.items ≡ out.old.items }
 {
     let ordered = in_order(*out.allocator(), moves)?;
     put_head(b"search ", ordered.len() as u64, out)?;
-    put_moves(game, place, seed, count, ordered.as_slice(), workspace, out)
+    put_moves(trials, ordered.as_slice(), workspace, out)
 }
 
 /// Plays matches after each of the moves, and appends a line for each.
 fn put_moves(
-    game: &PlayedGame,
-    place: &Place,
-    seed: u64,
-    count: u64,
+    trials: &Trials,
     moves: &[&[Pair]],
     workspace: &mut Workspace,
     out: &mut Vec<u8>,
-) -> Result<(), Refusal>
-    requires place { IsPlaceOf game.now place.now }
-    requires count { IsCount count }
-    requires legal { All (λ m. IsLegal game.now place.now m.now) moves.now }
-    ensures searched { OnOk result (WritesMoves game.now place.now count
-        (map (λ m. m.now) moves.now) out.old.items out.new.items) }
-    ensures unsearched { IfErr result (IsUnsearched game.now place.now) }
+) -> Result<(), QuestionError>
+    requires place { IsPlaceOf trials.now.game.now trials.now.place.now }
+    requires count { IsCount trials.now.draw.count }
+    requires legal { All (λ m. IsLegal trials.now.game.now trials.now.place.now m.now)
+        moves.now }
+    ensures searched { OnOk result (WritesMoves trials.now.game.now trials.now.place.now
+        trials.now.draw.count (map (λ m. m.now) moves.now) out.old.items out.new.items) }
+    ensures unsearched { IfErr result (IsUnsearched trials.now.game.now trials.now.place.now) }
     ensures kept { take (length out.old.items) out.new.items ≡ out.old.items }
 {
     for pairs in moves {
-        put_one(game, place, seed, count, pairs, workspace, out)?;
+        put_one(trials, pairs, workspace, out)?;
     }
     Ok(())
 }
 
 /// Plays matches after a move, and appends its line.
 fn put_one(
-    game: &PlayedGame,
-    place: &Place,
-    seed: u64,
-    count: u64,
+    trials: &Trials,
     pairs: &[Pair],
     workspace: &mut Workspace,
     out: &mut Vec<u8>,
-) -> Result<(), Refusal>
-    requires place { IsPlaceOf game.now place.now }
-    requires count { IsCount count }
-    requires legal { IsLegal game.now place.now pairs.now }
-    ensures searched { OnOk result (WritesOne game.now place.now count pairs.now out.old.items
-        out.new.items) }
-    ensures unsearched { IfErr result (IsUnsearched game.now place.now) }
+) -> Result<(), QuestionError>
+    requires place { IsPlaceOf trials.now.game.now trials.now.place.now }
+    requires count { IsCount trials.now.draw.count }
+    requires legal { IsLegal trials.now.game.now trials.now.place.now pairs.now }
+    ensures searched { OnOk result (WritesOne trials.now.game.now trials.now.place.now
+        trials.now.draw.count pairs.now out.old.items out.new.items) }
+    ensures unsearched { IfErr result (IsUnsearched trials.now.game.now trials.now.place.now) }
     ensures kept { take (length out.old.items) out.new.items ≡ out.old.items }
 {
-    let to = step(game, place, pairs, workspace)?;
-    let tallies = play_matches(*out.allocator(), game, &to, seed, count, workspace)?;
+    let to = step(trials.game, trials.place, pairs, workspace)?;
+    let tallies = play_matches(*out.allocator(), trials.game, &to, trials.draw, workspace)?;
     workspace.keep(to);
-    put_line(game.as_game(), tallies.as_slice(), pairs, out)?;
+    put_line(trials.game.as_game(), tallies.as_slice(), pairs, out)?;
     Ok(())
 }
 
 /// Appends the line of a move.
-fn put_line(game: &Game, tallies: &[Tally], pairs: &[Pair], out: &mut Vec<u8>) -> Result<(), Memory>
+fn put_line(
+    game: &Game,
+    tallies: &[EndingTally],
+    pairs: &[Pair],
+    out: &mut Vec<u8>,
+) -> Result<(), Memory>
     requires { AreFew tallies.now }
     ensures { Appends out.old.items out.new.items (searched_line (length game.now.players)
         (record { pairs = pairs.now; counted = map counted_by tallies.now })) result }
@@ -137,7 +135,7 @@ fn put_line(game: &Game, tallies: &[Tally], pairs: &[Pair], out: &mut Vec<u8>) -
 }
 
 /// Appends the mean score of each player.
-fn put_means(game: &Game, tallies: &[Tally], out: &mut Vec<u8>) -> Result<(), Memory>
+fn put_means(game: &Game, tallies: &[EndingTally], out: &mut Vec<u8>) -> Result<(), Memory>
     requires { AreFew tallies.now }
     ensures { Appends out.old.items out.new.items
         (means_text (map counted_by tallies.now) (length game.now.players)) result }
@@ -150,7 +148,7 @@ fn put_means(game: &Game, tallies: &[Tally], out: &mut Vec<u8>) -> Result<(), Me
 
 /// Appends a player's mean score over the matches that were finished, with a space before it. The players are numbered
 /// from 0.
-fn put_mean_of(player: usize, tallies: &[Tally], out: &mut Vec<u8>) -> Result<(), Memory>
+fn put_mean_of(player: usize, tallies: &[EndingTally], out: &mut Vec<u8>) -> Result<(), Memory>
     requires { AreFew tallies.now }
     ensures { Appends out.old.items out.new.items
         (codes " " ++ mean_text (total_of player (map counted_by tallies.now))

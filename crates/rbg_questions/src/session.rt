@@ -13,22 +13,24 @@ ghost use Rattle.rbg_questions.specs.internal.Places.{AreReached, IsHeardPlace};
 ghost use Rattle.rbg_questions.specs.internal.Telling.{Tells};
 
 use crate::answer_writer::{
-    write_board, write_key, write_matches, write_refusal, write_standing, write_state, write_values,
+    StateLines, write_board, write_key, write_matches, write_refusal, write_standing, write_state,
+    write_values,
 };
 use crate::chance::play_matches;
-use crate::keys::key_at;
+use crate::draw::Draw;
+use crate::keys::key_of;
 use crate::misfit::misfit_of;
 use crate::names_writer::write_names;
 use crate::ordering::write_in_order;
 use crate::packing::{pack, place_in};
 use crate::packing_writer::write_pack;
+use crate::play_standing::PlayStanding;
 use crate::question::Question;
+use crate::question_error::QuestionError;
 use crate::question_reader::read_question;
-use crate::refusal::Refusal;
 use crate::sampling::write_sample;
 use crate::searching::write_search;
 use crate::shape_writer::write_shape;
-use crate::standing::Standing;
 use crate::stepping::{
     count_at, follow, is_in_memory, lead, moves_at, pieces_at, standing_at, standing_of, values_at,
 };
@@ -81,7 +83,7 @@ impl Drop for Session {
 }
 
 /// The place to which the keeper's first moves lead.
-fn first_place(game: &PlayedGame, workspace: &mut Workspace) -> Result<Place, Unsettled>
+pub fn first_place(game: &PlayedGame, workspace: &mut Workspace) -> Result<Place, Unsettled>
     ensures place { IfOk result (λ place. Settles game.now (beginning_of game.now) place) }
     ensures reached { IfOk result (AreReached game.now (beginning_of game.now) []) }
     ensures heavy { result ≡ Err Heavy → MeetsHeavy game.now (beginning_of game.now) }
@@ -144,7 +146,7 @@ impl Session {
     }
 
     /// Answers the question of a line.
-    fn hear_question(&mut self, line: &[u8], out: &mut Vec<u8>) -> Result<(), Refusal>
+    fn hear_question(&mut self, line: &[u8], out: &mut Vec<u8>) -> Result<(), QuestionError>
         ensures hears { OnOk result (Hears self.old line.now self.new out.old.items
             out.new.items) }
         ensures refused { IfErr result (IsLineRefused self.old line.now) }
@@ -152,7 +154,7 @@ impl Session {
         ensures out { OnErr result (out.new.items ≡ out.old.items) }
     {
         if is_too_long(line) {
-            return Err(Refusal::Long);
+            return Err(QuestionError::Long);
         }
         match read_question(line) {
             Some(question) => self.answer(&question, out),
@@ -161,7 +163,11 @@ impl Session {
     }
 
     /// Answers a question: appends the lines of the answer to `out`. Where the question is refused, nothing has changed.
-    pub fn answer(&mut self, question: &Question<'_>, out: &mut Vec<u8>) -> Result<(), Refusal>
+    pub fn answer(
+        &mut self,
+        question: &Question<'_>,
+        out: &mut Vec<u8>,
+    ) -> Result<(), QuestionError>
         requires { QuestionHasSpelling question.now }
         ensures answers { OnOk result (AnswersIn self.old question.now self.new out.old.items
             out.new.items) }
@@ -192,7 +198,7 @@ impl Session {
 
     /// Lists the legal moves: so many of them, or all.
     #[tactic(auto, using(crate::proofs::OutOfMemory::memory_refused))]
-    fn list_moves(&mut self, max: Option<u64>, out: &mut Vec<u8>) -> Result<(), Refusal>
+    fn list_moves(&mut self, max: Option<u64>, out: &mut Vec<u8>) -> Result<(), QuestionError>
         requires { QuestionHasSpelling (questions.Moves max) }
         ensures answers { OnOk result (AnswersIn self.old (questions.Moves max) self.new
             out.old.items out.new.items) }
@@ -209,7 +215,7 @@ impl Session {
 
     /// Makes a move, and the keeper's moves after it.
     #[tactic(auto, using(crate::proofs::OutOfMemory::memory_refused))]
-    fn make(&mut self, pairs: &Move, out: &mut Vec<u8>) -> Result<(), Refusal>
+    fn make(&mut self, pairs: &Move, out: &mut Vec<u8>) -> Result<(), QuestionError>
         ensures answers { OnOk result (AnswersIn self.old (questions.Make pairs.now) self.new
             out.old.items out.new.items) }
         ensures refused { IfErr result (IsRefused self.old (questions.Make pairs.now)) }
@@ -226,7 +232,7 @@ impl Session {
 
     /// Hears a move, and stands where it leads.
     #[tactic(auto, using(crate::proofs::OutOfMemory::memory_refused))]
-    fn hear_move(&mut self, pairs: &Move, out: &mut Vec<u8>) -> Result<(), Refusal>
+    fn hear_move(&mut self, pairs: &Move, out: &mut Vec<u8>) -> Result<(), QuestionError>
         ensures answers { OnOk result (AnswersIn self.old (questions.Heard pairs.now) self.new
             out.old.items out.new.items) }
         ensures refused { IfErr result (IsRefused self.old (questions.Heard pairs.now)) }
@@ -245,7 +251,7 @@ impl Session {
 
     /// Undoes moves.
     #[tactic(auto, using(crate::proofs::OutOfMemory::memory_refused))]
-    fn go_back(&mut self, moves: Option<u64>, out: &mut Vec<u8>) -> Result<(), Refusal>
+    fn go_back(&mut self, moves: Option<u64>, out: &mut Vec<u8>) -> Result<(), QuestionError>
         requires { QuestionHasSpelling (questions.Back moves) }
         ensures answers { OnOk result (AnswersIn self.old (questions.Back moves) self.new
             out.old.items out.new.items) }
@@ -255,10 +261,10 @@ impl Session {
     {
         let many = count_of(moves);
         let Some(index) = self.index_before(many) else {
-            return Err(Refusal::Start);
+            return Err(QuestionError::Start);
         };
         let player = self.player_before(index);
-        write_standing(&Standing::ToMove { player }, out)?;
+        write_standing(&PlayStanding::ToMove { player }, out)?;
         self.return_to(index);
         Ok(())
     }
@@ -298,7 +304,7 @@ impl Session {
     }
 
     #[tactic(auto, using(crate::proofs::OutOfMemory::memory_refused))]
-    fn tell_place(&mut self, out: &mut Vec<u8>) -> Result<(), Refusal>
+    fn tell_place(&mut self, out: &mut Vec<u8>) -> Result<(), QuestionError>
         ensures answers { OnOk result (AnswersIn self.old questions.Place self.new out.old.items
             out.new.items) }
         ensures refused { IfErr result (IsRefused self.old questions.Place) }
@@ -311,7 +317,7 @@ impl Session {
     }
 
     #[tactic(auto, using(crate::proofs::OutOfMemory::memory_refused))]
-    fn tell_state(&mut self, out: &mut Vec<u8>) -> Result<(), Refusal>
+    fn tell_state(&mut self, out: &mut Vec<u8>) -> Result<(), QuestionError>
         ensures answers { OnOk result (AnswersIn self.old questions.State self.new out.old.items
             out.new.items) }
         ensures refused { IfErr result (IsRefused self.old questions.State) }
@@ -322,22 +328,28 @@ impl Session {
         let standing = standing_of(&self.game, &self.place, count);
         let values = values_at(self.alloc, &self.game, &self.place)?;
         let held = values.as_slice();
-        let key = key_at(&self.place, held);
-        write_state(count, key, &standing, pieces_at(&self.place), held, out)?;
+        let key = key_of(self.game.as_game(), &self.place);
+        let state = StateLines {
+            count,
+            key,
+            standing: &standing,
+            pieces: pieces_at(&self.place),
+            values: held,
+        };
+        write_state(&state, out)?;
         Ok(())
     }
 
     #[tactic(auto, using(crate::proofs::OutOfMemory::memory_refused))]
-    fn tell_key(&self, out: &mut Vec<u8>) -> Result<(), Refusal>
+    fn tell_key(&self, out: &mut Vec<u8>) -> Result<(), QuestionError>
         ensures { Tells self.now questions.Key out.old.items out.new.items result }
     {
-        let values = values_at(self.alloc, &self.game, &self.place)?;
-        write_key(key_at(&self.place, values.as_slice()), out)?;
+        write_key(key_of(self.game.as_game(), &self.place), out)?;
         Ok(())
     }
 
     #[tactic(auto, using(crate::proofs::OutOfMemory::memory_refused))]
-    fn tell_values(&self, out: &mut Vec<u8>) -> Result<(), Refusal>
+    fn tell_values(&self, out: &mut Vec<u8>) -> Result<(), QuestionError>
         ensures { Tells self.now questions.Values out.old.items out.new.items result }
     {
         let values = values_at(self.alloc, &self.game, &self.place)?;
@@ -346,7 +358,7 @@ impl Session {
     }
 
     #[tactic(auto, using(crate::proofs::OutOfMemory::memory_refused))]
-    fn tell_board(&self, out: &mut Vec<u8>) -> Result<(), Refusal>
+    fn tell_board(&self, out: &mut Vec<u8>) -> Result<(), QuestionError>
         ensures { Tells self.now questions.Board out.old.items out.new.items result }
     {
         write_board(pieces_at(&self.place), out)?;
@@ -354,7 +366,7 @@ impl Session {
     }
 
     #[tactic(auto, using(crate::proofs::OutOfMemory::memory_refused))]
-    fn tell_names(&self, out: &mut Vec<u8>) -> Result<(), Refusal>
+    fn tell_names(&self, out: &mut Vec<u8>) -> Result<(), QuestionError>
         ensures { Tells self.now questions.Names out.old.items out.new.items result }
     {
         write_names(self.game.as_game(), out)?;
@@ -362,7 +374,7 @@ impl Session {
     }
 
     #[tactic(auto, using(crate::proofs::OutOfMemory::memory_refused))]
-    fn tell_shape(&self, out: &mut Vec<u8>) -> Result<(), Refusal>
+    fn tell_shape(&self, out: &mut Vec<u8>) -> Result<(), QuestionError>
         ensures { Tells self.now questions.Shape out.old.items out.new.items result }
     {
         write_shape(self.game.as_game(), out)?;
@@ -370,7 +382,7 @@ impl Session {
     }
 
     #[tactic(auto, using(crate::proofs::OutOfMemory::memory_refused))]
-    fn tell_packed(&self, out: &mut Vec<u8>) -> Result<(), Refusal>
+    fn tell_packed(&self, out: &mut Vec<u8>) -> Result<(), QuestionError>
         ensures { Tells self.now questions.Pack out.old.items out.new.items result }
     {
         let bytes = pack(self.alloc, self.game.as_game(), &self.place)?;
@@ -380,7 +392,7 @@ impl Session {
 
     /// Stands at the place of these digits.
     #[tactic(auto, using(crate::proofs::OutOfMemory::memory_refused))]
-    fn stand_at(&mut self, text: &[u8], out: &mut Vec<u8>) -> Result<(), Refusal>
+    fn stand_at(&mut self, text: &[u8], out: &mut Vec<u8>) -> Result<(), QuestionError>
         ensures answers { OnOk result (AnswersIn self.old (questions.Unpack text.entry) self.new
             out.old.items out.new.items) }
         ensures refused { IfErr result (IsRefused self.old (questions.Unpack text.entry)) }
@@ -400,7 +412,12 @@ impl Session {
     }
 
     /// Plays matches by chance after each legal move.
-    fn search_moves(&mut self, seed: u64, count: u64, out: &mut Vec<u8>) -> Result<(), Refusal>
+    fn search_moves(
+        &mut self,
+        seed: u64,
+        count: u64,
+        out: &mut Vec<u8>,
+    ) -> Result<(), QuestionError>
         requires { QuestionHasSpelling (questions.Search seed count) }
         ensures answers { OnOk result (AnswersIn self.old (questions.Search seed count) self.new
             out.old.items out.new.items) }
@@ -408,18 +425,12 @@ impl Session {
         ensures kept { self.new ≡ self.old }
         ensures out { OnErr result (out.new.items ≡ out.old.items) }
     {
-        write_search(
-            &self.game,
-            &self.place,
-            seed,
-            count,
-            &mut self.workspace,
-            out,
-        )
+        let draw = Draw { seed, count };
+        write_search(&self.game, &self.place, draw, &mut self.workspace, out)
     }
 
     /// Plays one match by chance from where play stands.
-    fn play_sample(&mut self, seed: u64, most: u64, out: &mut Vec<u8>) -> Result<(), Refusal>
+    fn play_sample(&mut self, seed: u64, most: u64, out: &mut Vec<u8>) -> Result<(), QuestionError>
         requires { QuestionHasSpelling (questions.Sample seed most) }
         ensures answers { OnOk result (AnswersIn self.old (questions.Sample seed most) self.new
             out.old.items out.new.items) }
@@ -427,19 +438,18 @@ impl Session {
         ensures kept { self.new ≡ self.old }
         ensures out { OnErr result (out.new.items ≡ out.old.items) }
     {
-        write_sample(
-            &self.game,
-            &self.place,
-            seed,
-            most,
-            &mut self.workspace,
-            out,
-        )
+        let draw = Draw { seed, count: most };
+        write_sample(&self.game, &self.place, draw, &mut self.workspace, out)
     }
 
     /// Plays matches by chance from where play stands.
     #[tactic(auto, using(crate::proofs::OutOfMemory::memory_refused))]
-    fn play_by_chance(&mut self, seed: u64, count: u64, out: &mut Vec<u8>) -> Result<(), Refusal>
+    fn play_by_chance(
+        &mut self,
+        seed: u64,
+        count: u64,
+        out: &mut Vec<u8>,
+    ) -> Result<(), QuestionError>
         requires { QuestionHasSpelling (questions.Random seed count) }
         ensures answers { OnOk result (AnswersIn self.old (questions.Random seed count) self.new
             out.old.items out.new.items) }
@@ -451,8 +461,7 @@ impl Session {
             self.alloc,
             &self.game,
             &self.place,
-            seed,
-            count,
+            Draw { seed, count },
             &mut self.workspace,
         )?;
         write_matches(count, tallies.as_slice(), out)?;

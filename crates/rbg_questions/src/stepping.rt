@@ -8,61 +8,62 @@ ghost use Rattle.rbg_questions.specs.Chance.{IsUnmoved};
 ghost use Rattle.rbg_questions.specs.Sessions.{Leads};
 ghost use Rattle.rbg_questions.specs.internal.Places.{IsUnfollowed, IsUnlisted, IsUnmade, IsUntold};
 
-use crate::refusal::Refusal;
-use crate::standing::Standing;
+use crate::play_standing::PlayStanding;
+use crate::question_error::QuestionError;
 use rbg_base::{Memory, Move, MoveList, Pair, Piece, Variable};
 use rbg_moves::{Gathered, Place, PlayedGame, Workspace};
 use std::alloc::Global;
 
 /// The place to which a move leads with the keeper's moves after it.
-pub(crate) fn lead(
+pub fn lead(
     game: &PlayedGame,
     place: &Place,
     pairs: &Move,
     workspace: &mut Workspace,
-) -> Result<Place, Refusal>
+) -> Result<Place, QuestionError>
     requires { IsPlaceOf game.now place.now }
     ensures leads { IfOk result (Leads game.now place.now pairs.now) }
     ensures in_game { IfOk result (IsPlaceOf game.now) }
     ensures unmade { IfErr result (IsUnmade game.now place.now pairs.now) }
 {
     let Some(mut to) = game.try_move(place, pairs, workspace)? else {
-        return Err(Refusal::Illegal);
+        return Err(QuestionError::Illegal);
     };
     game.settle(&mut to, workspace)?;
     Ok(to)
 }
 
 /// The place to which a move leads that was heard.
-pub(crate) fn follow(
+pub fn follow(
     game: &PlayedGame,
     place: &Place,
     pairs: &Move,
     workspace: &mut Workspace,
-) -> Result<Place, Refusal>
+) -> Result<Place, QuestionError>
     requires { IsPlaceOf game.now place.now }
     ensures legal { IfOk result (Legal game.now place.now pairs.now) }
     ensures in_game { IfOk result (IsPlaceOf game.now) }
     ensures unfollowed { IfErr result (IsUnfollowed game.now place.now pairs.now) }
 {
     let Some(to) = game.try_move(place, pairs, workspace)? else {
-        return Err(Refusal::Illegal);
+        return Err(QuestionError::Illegal);
     };
     Ok(to)
 }
 
 /// As `lead`, of a move that is known to be legal. Only moves of the keeper are searched for.
-pub(crate) fn step(
+pub fn step(
     game: &PlayedGame,
     place: &Place,
     pairs: &[Pair],
     workspace: &mut Workspace,
-) -> Result<Place, Refusal>
+) -> Result<Place, QuestionError>
     requires place { IsPlaceOf game.now place.now }
     requires legal { IsLegal game.now place.now pairs.now }
     ensures leads { IfOk result (Leads game.now place.now pairs.now) }
     ensures in_game { IfOk result (IsPlaceOf game.now) }
     ensures unmoved { IfErr result (IsUnmoved game.now place.now) }
+    ensures unmade { IfErr result (IsUnmade game.now place.now pairs.now) }
 {
     let mut to = workspace.copy_of(place)?;
     game.make_move(&mut to, pairs)?;
@@ -79,12 +80,12 @@ pub(crate) fn is_in_memory(moves: &MoveList)
 }
 
 /// The legal moves of a place, at most `max` of them, in a list that `Workspace::keep_moves` takes back.
-pub(crate) fn moves_at(
+pub fn moves_at(
     game: &PlayedGame,
     place: &Place,
     max: usize,
     workspace: &mut Workspace,
-) -> Result<Gathered, Refusal>
+) -> Result<Gathered, QuestionError>
     requires place { IsPlaceOf game.now place.now }
     requires some { 0 < max }
     ensures gathered { IfOk result (λ gathered.
@@ -102,7 +103,7 @@ pub(crate) fn count_at(
     game: &PlayedGame,
     place: &Place,
     workspace: &mut Workspace,
-) -> Result<u64, Refusal>
+) -> Result<u64, QuestionError>
     requires { IsPlaceOf game.now place.now }
     ensures count { IfOk result (HasMoves game.now place.now) }
     ensures unlisted { IfErr result (IsUnlisted game.now place.now) }
@@ -114,17 +115,17 @@ pub(crate) fn count_at(
 }
 
 /// How play stands at a place that has so many legal moves.
-pub(crate) fn standing_of(game: &PlayedGame, place: &Place, count: u64) -> Standing
+pub(crate) fn standing_of(game: &PlayedGame, place: &Place, count: u64) -> PlayStanding
     requires place { IsPlaceOf game.now place.now }
     requires count { HasMoves game.now place.now count }
     ensures { StandsAt game.now place.now (standing_answer result) }
 {
     if count == 0 {
-        return Standing::Finished {
+        return PlayStanding::Finished {
             scores: game.scores(place),
         };
     }
-    Standing::ToMove {
+    PlayStanding::ToMove {
         player: place.state.player(),
     }
 }
@@ -134,7 +135,7 @@ pub(crate) fn standing_at(
     game: &PlayedGame,
     place: &Place,
     workspace: &mut Workspace,
-) -> Result<Standing, Refusal>
+) -> Result<PlayStanding, QuestionError>
     requires { IsPlaceOf game.now place.now }
     ensures stands { IfOk result (λ standing.
         StandsAt game.now place.now (standing_answer standing)) }
@@ -146,11 +147,11 @@ pub(crate) fn standing_at(
     match found {
         Some(pairs) => {
             workspace.keep_pairs(pairs);
-            Ok(Standing::ToMove {
+            Ok(PlayStanding::ToMove {
                 player: place.state.player(),
             })
         }
-        None => Ok(Standing::Finished {
+        None => Ok(PlayStanding::Finished {
             scores: game.scores(place),
         }),
     }

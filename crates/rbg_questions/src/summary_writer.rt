@@ -11,7 +11,7 @@ ghost use Rattle.rbg_questions.specs.internal.Bounds.{AreFew, highest};
 
 use crate::answer_writer::put_scores;
 use crate::sums::{Counting, add_scores, sum_of};
-use crate::tally::{Ending, Tally};
+use crate::tally::{Ending, EndingTally};
 use rbg_base::{Memory, Player};
 use rbg_rules::Game;
 use rbg_wire::write_number;
@@ -21,7 +21,7 @@ use rbg_wire::write_number;
 pub(crate) fn put_summary(
     game: &Game,
     count: u64,
-    tallies: &[Tally],
+    tallies: &[EndingTally],
     out: &mut Vec<u8>,
 ) -> Result<(), Memory>
     requires { AreFew tallies.now }
@@ -45,7 +45,7 @@ fn put_number_line(head: &[u8], number: u64, out: &mut Vec<u8>) -> Result<(), Me
 }
 
 /// Appends the mean score of each player.
-fn put_means(game: &Game, tallies: &[Tally], out: &mut Vec<u8>) -> Result<(), Memory>
+fn put_means(game: &Game, tallies: &[EndingTally], out: &mut Vec<u8>) -> Result<(), Memory>
     requires { AreFew tallies.now }
     ensures { Appends out.old.items out.new.items
         (mean_lines game.now.players (map counted_by tallies.now) (length game.now.players))
@@ -62,7 +62,7 @@ fn put_means(game: &Game, tallies: &[Tally], out: &mut Vec<u8>) -> Result<(), Me
 fn put_mean_of(
     player: usize,
     name: &str,
-    tallies: &[Tally],
+    tallies: &[EndingTally],
     out: &mut Vec<u8>,
 ) -> Result<(), Memory>
     requires { AreFew tallies.now }
@@ -124,7 +124,7 @@ fn put_hundredths(hundredths: u128, out: &mut Vec<u8>) -> Result<(), Memory>
 }
 
 /// Appends a line for each way in which matches were finished, in the order in which they were first met.
-fn put_endings(tallies: &[Tally], out: &mut Vec<u8>) -> Result<(), Memory>
+fn put_endings(tallies: &[EndingTally], out: &mut Vec<u8>) -> Result<(), Memory>
     ensures { Appends out.old.items out.new.items
         (flat_map (λ one. ended_line one.scores one.matches) (map counted_by tallies.now))
         result }
@@ -135,7 +135,7 @@ fn put_endings(tallies: &[Tally], out: &mut Vec<u8>) -> Result<(), Memory>
     Ok(())
 }
 
-fn put_ending(tally: &Tally, out: &mut Vec<u8>) -> Result<(), Memory>
+fn put_ending(tally: &EndingTally, out: &mut Vec<u8>) -> Result<(), Memory>
     ensures { Appends out.old.items out.new.items
         (ended_line (scores_of tally.now.ending) tally.now.matches) result }
 {

@@ -5,7 +5,7 @@ ghost use Rattle.rbg_questions.specs.Summary.{finished_in, score_of, total_of};
 ghost use Rattle.rbg_questions.specs.internal.Counts.{number_in, sum_in};
 ghost use Rattle.rbg_questions.specs.internal.Bounds.{AreFew, highest};
 
-use crate::tally::{Ending, Tally};
+use crate::tally::{Ending, EndingTally};
 
 /// What is counted of the matches that a tally holds.
 #[derive(Clone, Copy)]
@@ -16,7 +16,7 @@ pub(crate) enum Counting {
 }
 
 /// How many there are in all matches together.
-pub(crate) fn sum_of(counting: Counting, tallies: &[Tally]) -> u64
+pub(crate) fn sum_of(counting: Counting, tallies: &[EndingTally]) -> u64
     requires { AreFew tallies.now }
     ensures { result ≡ sum_in counting (map counted_by tallies.now) }
 {
@@ -27,7 +27,7 @@ pub(crate) fn sum_of(counting: Counting, tallies: &[Tally]) -> u64
     sum
 }
 
-fn number_in(counting: Counting, tally: &Tally) -> u64
+fn number_in(counting: Counting, tally: &EndingTally) -> u64
     ensures { result ≡ number_in counting (counted_by tally.now) }
 {
     match counting {
@@ -44,7 +44,7 @@ fn number_in(counting: Counting, tally: &Tally) -> u64
 }
 
 /// What a player scored in all matches together. The players are numbered from 0.
-pub(crate) fn add_scores(player: usize, tallies: &[Tally]) -> u128
+pub(crate) fn add_scores(player: usize, tallies: &[EndingTally]) -> u128
     requires { AreFew tallies.now }
     ensures total { result ≡ total_of player (map counted_by tallies.now) }
     ensures small { result ≤ highest * finished_in (map counted_by tallies.now) }

@@ -1,7 +1,7 @@
 //! What is met in matches besides how many of them end in which way.
 
 use crate::chosen::Chosen;
-use crate::tally::{Ending, Played, Tally};
+use crate::tally::{Ending, EndingTally, Played};
 use rbg_base::Memory;
 use std::alloc::Global;
 
@@ -33,7 +33,7 @@ impl Survey {
         &mut self,
         seed: u64,
         played: &Played,
-        tallies: &[Tally],
+        tallies: &[EndingTally],
     ) -> Result<(), Memory> {
         self.least = self.least.min(played.moves);
         self.greatest = self.greatest.max(played.moves);
@@ -45,7 +45,7 @@ impl Survey {
 }
 
 /// Whether one of the tallies is that of an ending.
-fn has_ending(ending: &Ending, tallies: &[Tally]) -> bool {
+fn has_ending(ending: &Ending, tallies: &[EndingTally]) -> bool {
     for tally in tallies {
         if is_same(&tally.ending, ending) {
             return true;

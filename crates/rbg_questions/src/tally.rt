@@ -28,7 +28,7 @@ pub struct Played {
 
 /// How many matches ended in one way.
 #[derive(Drop)]
-pub struct Tally {
+pub struct EndingTally {
     /// How they ended.
     pub ending: Ending,
     /// How many they are.
@@ -66,7 +66,7 @@ fn is_stopped(ending: &Ending) -> bool
 }
 
 /// The index of the tally of an ending, if there is one.
-fn index_of(ending: &Ending, tallies: &[Tally]) -> Option<usize>
+fn index_of(ending: &Ending, tallies: &[EndingTally]) -> Option<usize>
     ensures found { IfSome result (IsTallyAt (scores_of ending.now) tallies.now) }
     ensures none { IfNone result (All (λ tally. scores_of tally.ending ≢ scores_of ending.now)
         tallies.now) }
@@ -77,7 +77,7 @@ fn index_of(ending: &Ending, tallies: &[Tally]) -> Option<usize>
 }
 
 /// Counts one more match of so many moves in the tally at an index.
-fn count_one(index: usize, moves: u64, tallies: &mut [Tally])
+fn count_one(index: usize, moves: u64, tallies: &mut [EndingTally])
     requires there { index < length tallies.old }
     requires few { moves ≤ most_played }
     requires small { All IsSmall tallies.old }
@@ -91,7 +91,7 @@ fn count_one(index: usize, moves: u64, tallies: &mut [Tally])
 }
 
 /// Counts one more match.
-pub fn count_in(played: Played, tallies: &mut Vec<Tally>) -> Result<(), Memory>
+pub fn count_in(played: Played, tallies: &mut Vec<EndingTally>) -> Result<(), Memory>
     requires few { played.moves ≤ most_played }
     requires small { All IsSmall tallies.old.items }
     ensures { OnOk result (CountsIn (scores_of played.ending) played.moves
@@ -107,13 +107,13 @@ pub fn count_in(played: Played, tallies: &mut Vec<Tally>) -> Result<(), Memory>
 }
 
 /// Counts the first match that ended so.
-fn push_first(played: Played, tallies: &mut Vec<Tally>) -> Result<(), Memory>
+fn push_first(played: Played, tallies: &mut Vec<EndingTally>) -> Result<(), Memory>
     ensures { OnOk result (tallies.new.items
         ≡ tallies.old.items
         ++ (record { ending = played.ending; matches = 1; moves = played.moves }) ∷ []) }
 {
     let Played { ending, moves } = played;
-    tallies.push(Tally {
+    tallies.push(EndingTally {
         ending,
         matches: 1,
         moves,

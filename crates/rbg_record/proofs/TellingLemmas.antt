@@ -26,7 +26,8 @@ use Rattle.rbg_script.proofs.Lacking.{written_read}
 use Rattle.rbg_script.proofs.LineLemmas.{whole_lines}
 use Rattle.rbg_record.specs.declared.script_error.ScriptingError.{ScriptingError}
 use Rattle.rbg_record.specs.declared.script_error.ScriptingError.TheVariants.{Form, Memory}
-use Rattle.rbg_record.specs.Scripting.{HasForm, head_1, head_2, IsMove, IsNoRecord, IsScriptOfRecord, LeadThere, LeadsOn, config_at, events_in, turns_of}
+use Rattle.rbg_record.specs.Scripting.{HasForm, head_1, head_2, IsMove, IsNoRecord, IsScriptOfRecord, LeadThere, LeadsOn, config_at, events_in}
+use Rattle.rbg_record.specs.Right.{turn_config}
 use Rattle.rbg_record.specs.Scripting as scripting
 use Rattle.rbg_record.specs.internal.Telling.{AreWritten, IsRefusal, IsWritten, RefusesLine, WritesEntries, AppendsEvents, WritesNext, TellsWhole}
 use Rattle.rbg_record.proofs.EventLines.{tells_nothing, tells_both}
@@ -70,7 +71,7 @@ players_told text names old spells = record {
   };
 }
 
-pub start_told : (text : List ℕ) (start : Start) (old new : List ℕ) → SpellsStart text start → IsWithinLimits (turns_of start.turn_ms) → new ≡ old ++ line_of (config_text (config_at start.turn_ms start.now)) → WritesNext nexts.Start text (nexts.Entry Two) old new
+pub start_told : (text : List ℕ) (start : Start) (old new : List ℕ) → SpellsStart text start → IsWithinLimits (turn_config start.turn_ms) → new ≡ old ++ line_of (config_text (config_at start.turn_ms start.now)) → WritesNext nexts.Start text (nexts.Entry Two) old new
 start_told text start old new spells within told = record {
   leads = scripting.start spells within;
   told = λ texts so_far. record {
@@ -135,13 +136,13 @@ pub players_tell : (next : Next) (text : List ℕ) (names : _) (old : List ℕ) 
 players_tell nexts.Players text names old says = players_told text _ old says
 players_tell _ text names old says = absurd says
 
-pub start_tells : (next : Next) (text : List ℕ) (start : Start) (old new : List ℕ) → HasContent next text (contents.Start start) → IsWithinLimits (turns_of start.turn_ms) → new ≡ old ++ line_of (config_text (config_at start.turn_ms start.now)) → WritesNext next text (nexts.Entry Two) old new
+pub start_tells : (next : Next) (text : List ℕ) (start : Start) (old new : List ℕ) → HasContent next text (contents.Start start) → IsWithinLimits (turn_config start.turn_ms) → new ≡ old ++ line_of (config_text (config_at start.turn_ms start.now)) → WritesNext next text (nexts.Entry Two) old new
 start_tells nexts.Start text start old new says within told = start_told text start old new says within told
 start_tells _ text start old new says within told = absurd says
 
 -- a start whose turn is not within the limits has no form
-pub no_start : (next : Next) (text : List ℕ) (start : Start) → HasContent next text (contents.Start start) → (IsWithinLimits (turns_of start.turn_ms) → ⊥) → HasForm next text → ⊥
-no_start nexts.Start text start says beyond form = beyond (subst (λ (one : Start). IsWithinLimits (turns_of one.turn_ms)) (one_start text form.0 start form.1 says) form.2)
+pub no_start : (next : Next) (text : List ℕ) (start : Start) → HasContent next text (contents.Start start) → (IsWithinLimits (turn_config start.turn_ms) → ⊥) → HasForm next text → ⊥
+no_start nexts.Start text start says beyond form = beyond (subst (λ (one : Start). IsWithinLimits (turn_config one.turn_ms)) (one_start text form.0 start form.1 says) form.2)
 no_start _ text start says beyond form = absurd says
 
 pub entry_spelled : (next : Next) (text : List ℕ) (told : Timed) → HasContent next text (contents.Entry told) → EntryHasSpelling told.entry

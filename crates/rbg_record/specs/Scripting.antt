@@ -17,7 +17,7 @@ use Rattle.rbg_record.specs.Entries.{SpellsIn}
 use Rattle.rbg_record.specs.Heading.{version_text, SpellsPlayers, SpellsStart}
 use Rattle.rbg_record.specs.NextLine.{HasFormFault}
 use Rattle.rbg_record.specs.Reading as reading
-use Rattle.rbg_match.specs.declared.config.Config.{Config}
+use Rattle.rbg_record.specs.Right.{turn_config}
 use Rattle.rbg_match.specs.Config.{IsWithinLimits}
 use Rattle.rbg_script.specs.declared.config.ScriptConfig.{ScriptConfig}
 use Rattle.rbg_script.specs.Events.{AbstractEvent, piece_event, end_event, tick_event}
@@ -51,17 +51,13 @@ events_in told = entry_events told.at told.entry
 abbrev pub config_at : (turn_ms now : ℕ) → ScriptConfig
 config_at turn_ms now = record { turn_ms = turn_ms; refusals = 0; now = now }
 
--- how long a turn lasts, as a config
-abbrev pub turns_of : (turn_ms : ℕ) → Config
-turns_of turn_ms = record { turn_ms = turn_ms; refusals = 0 }
-
 -- The first lines of a record of a version have these texts, and the script has this config.
 pub data IsHead : Version → (texts : List (List ℕ)) → ScriptConfig → Type 0 where
   head_1 : IsHead One (version_text One ∷ []) (config_at 1 0)
   head_2 : {players : List ℕ} {names : List (List ℕ)} {text : List ℕ} {start : Start} →
       SpellsPlayers players names →
       SpellsStart text start →
-      IsWithinLimits (turns_of start.turn_ms) →
+      IsWithinLimits (turn_config start.turn_ms) →
       IsHead Two (version_text Two ∷ players ∷ text ∷ []) (config_at start.turn_ms start.now)
 
 -- the entry is a move
@@ -90,7 +86,7 @@ pub record IsScriptOfRecord (bytes new : List ℕ) : Type 0 where
 
 -- The text is of the form that a line may have there. A start is one whose turn is within the limits.
 abbrev pub HasForm : Next → (text : List ℕ) → Type 0
-HasForm nexts.Start text = (start : Start) × SpellsStart text start × IsWithinLimits (turns_of start.turn_ms)
+HasForm nexts.Start text = (start : Start) × SpellsStart text start × IsWithinLimits (turn_config start.turn_ms)
 HasForm next text = reading.HasForm next text
 
 -- A line of this text that has the form leads from one part of a record to another one.
@@ -102,7 +98,7 @@ pub data LeadsOn : Next → (text : List ℕ) → Next → Type 0 where
       LeadsOn nexts.Players text nexts.Start
   start : {text : List ℕ} {start : Start} →
       SpellsStart text start →
-      IsWithinLimits (turns_of start.turn_ms) →
+      IsWithinLimits (turn_config start.turn_ms) →
       LeadsOn nexts.Start text (nexts.Entry Two)
   move : {version : Version} {text : List ℕ} (told : Timed) →
       SpellsIn version text told →

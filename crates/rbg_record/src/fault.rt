@@ -35,7 +35,7 @@ pub struct Misfit {
 
 impl Misfit {
     /// The verdict on a record with this misfit.
-    pub(crate) fn checked(self) -> Result<Checked, RecordError>
+    pub fn checked(self) -> Result<Checked, RecordError>
         ensures { result ≡ verdict_at self.fault self.line }
     {
         let line = self.line;

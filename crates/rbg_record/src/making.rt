@@ -1,21 +1,20 @@
 //! Making a script of a record, line by line.
-ghost use Rattle.std.specs.Prelude.{◌≡◌, ◌↔◌, ◌++◌, ℕ, List, IfErr, IfOk, OnOk, IsTrue, Err};
+ghost use Rattle.std.specs.Prelude.{◌≡◌, ◌++◌, ℕ, List, IfErr, IfOk, OnOk, Err};
 ghost use Rattle.rbg_record.specs.Heading.{version_text};
 ghost use Rattle.rbg_record.specs.Reading.{HasContent};
-ghost use Rattle.rbg_match.specs.Config.{IsWithinLimits};
 ghost use Rattle.rbg_script.specs.Config.{config_text};
 ghost use Rattle.rbg_wire.specs.Lines.{line_of};
-ghost use Rattle.rbg_record.specs.Scripting.{IsNoRecord, IsScriptOfRecord, config_at, turns_of};
+ghost use Rattle.rbg_record.specs.Scripting.{IsNoRecord, IsScriptOfRecord, config_at};
 ghost use Rattle.rbg_record.specs.internal.Telling.{IsRefusal, RefusesLine, WritesNext};
 
 use crate::ScriptingError;
 use crate::entries::write_entry;
 use crate::heading::{Start, Version};
 use crate::line::{Content, RecordLine};
+use crate::moments::has_lawful_turns;
 use crate::next::Next;
 use crate::reader::RecordReader;
 use rbg_base::Memory;
-use rbg_match::Config;
 use rbg_script::{ScriptConfig, write_config};
 use std::alloc::Global;
 
@@ -62,7 +61,7 @@ fn write_line(
         Content::Version(version) => Ok(begin(*version, out)?),
         Content::Players(_) => Ok(Next::Start),
         Content::Start(start) => {
-            if !is_within_limits(*start) {
+            if !has_lawful_turns(*start) {
                 return Err(ScriptingError::Form(line.number));
             }
             write_start(*start, out)?;
@@ -87,17 +86,6 @@ fn begin(version: Version, out: &mut Vec<u8>) -> Result<Next, Memory>
         }
         Version::Two => Ok(Next::Players),
     }
-}
-
-/// Whether the time for a turn is within its limits.
-fn is_within_limits(start: Start) -> bool
-    ensures { IsTrue result ↔ IsWithinLimits (turns_of start.turn_ms) }
-{
-    let config = Config {
-        turn_ms: start.turn_ms,
-        refusals: 0,
-    };
-    config.is_within_limits()
 }
 
 /// Appends the config of a match with this start. No refusal is allowed.

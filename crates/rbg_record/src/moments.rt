@@ -15,16 +15,23 @@ use rbg_match::{Config, LATEST_MOMENT};
 use rbg_moves::PlayedGame;
 use rbg_wire::Outcome;
 
-/// Whether the time for a turn is within its limits, and the moment of the beginning is one that is counted.
-pub(crate) fn is_lawful(start: Start) -> bool
-    ensures { IsTrue result ↔ (IsWithinLimits (turn_config start.turn_ms)
-        × (start.now ≤ latest_moment)) }
+/// Whether the time for a turn is within its limits.
+pub(crate) fn has_lawful_turns(start: Start) -> bool
+    ensures { IsTrue result ↔ IsWithinLimits (turn_config start.turn_ms) }
 {
     let config = Config {
         turn_ms: start.turn_ms,
         refusals: 0,
     };
-    config.is_within_limits() && start.now <= LATEST_MOMENT
+    config.is_within_limits()
+}
+
+/// Whether the time for a turn is within its limits, and the moment of the beginning is one that is counted.
+pub(crate) fn is_lawful(start: Start) -> bool
+    ensures { IsTrue result ↔ (IsWithinLimits (turn_config start.turn_ms)
+        × (start.now ≤ latest_moment)) }
+{
+    has_lawful_turns(start) && start.now <= LATEST_MOMENT
 }
 
 impl MatchSoFar {

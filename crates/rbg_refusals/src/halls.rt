@@ -11,7 +11,7 @@ use crate::stop::Stop;
 use crate::two_tables;
 use rbg_game::load;
 use rbg_hall::{Hall, HallError, HallEvent, HallOut, Table};
-use rbg_serving::{ListClock, MemoryLog};
+use rbg_serving::{BoundedLog, ListClock};
 use std::alloc::Global;
 use std::io::Write;
 
@@ -150,7 +150,7 @@ fn are_queued(copies: &[Vec<u8>], out: &HallOut) -> bool {
 /// Handles events in a hall whose match has a log. Without events the queues are printed as they are.
 fn hear<W: Write>(
     alloc: Global,
-    hall: &mut Hall<MemoryLog>,
+    hall: &mut Hall<BoundedLog>,
     out: &mut HallOut,
     events: &[HallEvent<'_>],
     facts: &mut Facts<W>,
@@ -159,14 +159,14 @@ fn hear<W: Write>(
         tell_queues(out, facts);
         return Ok(());
     };
-    hall.keep(1, MemoryLog::new(alloc, ROOM));
+    hall.keep(1, BoundedLog::new(alloc, ROOM));
     step_all(hall, out, before)?;
     step_last(alloc, hall, out, *last, facts)
 }
 
 /// Handles the events before the one that the run is about.
 fn step_all(
-    hall: &mut Hall<MemoryLog>,
+    hall: &mut Hall<BoundedLog>,
     out: &mut HallOut,
     events: &[HallEvent<'_>],
 ) -> Result<(), Stop> {
@@ -178,7 +178,7 @@ fn step_all(
 
 fn step_last<W: Write>(
     alloc: Global,
-    hall: &mut Hall<MemoryLog>,
+    hall: &mut Hall<BoundedLog>,
     out: &mut HallOut,
     event: HallEvent<'_>,
     facts: &mut Facts<W>,
@@ -191,7 +191,7 @@ fn step_last<W: Write>(
 
 /// Handles the event. If memory is refused, it is handled once more.
 fn tell_step<W: Write>(
-    hall: &mut Hall<MemoryLog>,
+    hall: &mut Hall<BoundedLog>,
     out: &mut HallOut,
     queued: &[Vec<u8>],
     event: HallEvent<'_>,
@@ -209,7 +209,7 @@ fn tell_step<W: Write>(
 }
 
 /// Prints what a log holds.
-fn tell_log<W: Write>(log: Option<&MemoryLog>, facts: &mut Facts<W>) {
+fn tell_log<W: Write>(log: Option<&BoundedLog>, facts: &mut Facts<W>) {
     match log {
         Some(log) => facts.bytes(log.bytes()),
         None => facts.line("no log"),
@@ -225,7 +225,7 @@ fn make_and_run<W: Write>(alloc: Global, facts: &mut Facts<W>) -> Result<(), Sto
 
 fn run_hall<W: Write>(
     alloc: Global,
-    hall: &mut Hall<MemoryLog>,
+    hall: &mut Hall<BoundedLog>,
     out: &mut HallOut,
     facts: &mut Facts<W>,
 ) -> Result<(), Stop> {

@@ -138,7 +138,7 @@ fn serve_over<W: Write>(
         return Err(Stop::Wrong);
     }
     let mut clock = ListClock::new(Vec::new(alloc));
-    let served = serve(alloc, lines, opened, outbox, &mut clock, rounds);
+    let served = serve(lines, opened, outbox, &mut clock, rounds);
     if outbox.seats() != 2 {
         return Err(Stop::Wrong);
     }

@@ -8,7 +8,7 @@ use crate::records;
 use crate::stop::Stop;
 use rbg_base::Memory;
 use rbg_hall::{Hall, HallEvent, HallOut, Table};
-use rbg_serving::MemoryLog;
+use rbg_serving::BoundedLog;
 use std::alloc::Global;
 use std::io::Write;
 
@@ -90,7 +90,7 @@ fn make<W: Write>(alloc: Global, facts: &mut Facts<W>) -> Result<(), Stop> {
 }
 
 /// Handles the events in the hall, and prints what each of them queues.
-fn hear<W: Write>(hall: &mut Hall<MemoryLog>, out: &mut HallOut, facts: &mut Facts<W>) {
+fn hear<W: Write>(hall: &mut Hall<BoundedLog>, out: &mut HallOut, facts: &mut Facts<W>) {
     let mut sizes = [[0; LINES]; EVENTS];
     match step_each(hall, out, &mut sizes) {
         Ok(()) => tell_each(out, &sizes, facts),
@@ -100,7 +100,7 @@ fn hear<W: Write>(hall: &mut Hall<MemoryLog>, out: &mut HallOut, facts: &mut Fac
 
 /// Handles the events in the hall, and keeps how much is queued after each of them.
 fn step_each(
-    hall: &mut Hall<MemoryLog>,
+    hall: &mut Hall<BoundedLog>,
     out: &mut HallOut,
     sizes: &mut [Sizes; EVENTS],
 ) -> Result<(), Memory> {

@@ -3,7 +3,7 @@ use Rattle.rbg_base.proofs.Common.{◌≡◌, ◌≢◌, ℕ, ◌<◌, ◌^◌, 
 use Rattle.rbg_wire.proofs.ByteLemmas.{same_end}
 use Rattle.rbg_wire.proofs.FieldLemmas.{same_fields}
 use Rattle.rbg_script.specs.declared.config.ScriptConfig.{ScriptConfig}
-use Rattle.rbg_script.specs.declared.event.Message.{Message}
+use Rattle.rbg_script.specs.declared.event.ScriptMessage.{ScriptMessage}
 use Rattle.rbg_script.specs.declared.event.ScriptEvent.{ScriptEvent}
 use Rattle.rbg_script.specs.Config.{SpellsConfig}
 use Rattle.rbg_script.specs.Events.{AbstractEvent, piece_event, end_event, tick_event, AreNumbers, HasFields, SpellsBytes, SpellsEvent, SpellsMessage, by_message, by_digits, by_end, by_tick, end_text, tick_text, event_of}
@@ -94,7 +94,7 @@ config_some line config h empty =
     let same : 99 ∷ begins.0 ≡ [] = sym begins.1 ∙ empty in
     cc
 
-pub message_only : (text : List ℕ) (answer : Option Message) → IfSome answer (SpellsMessage text) → IfNone answer ((seat at : ℕ) (said : List ℕ) → HasFields text (codes "m ") seat at said → ⊥) → (seat at : ℕ) (said : List ℕ) → HasFields text (codes "m ") seat at said → IsSomeAnd answer (λ message. (message.seat ≡ seat) × (message.at ≡ at) × (message.text.now ≡ said))
+pub message_only : (text : List ℕ) (answer : Option ScriptMessage) → IfSome answer (SpellsMessage text) → IfNone answer ((seat at : ℕ) (said : List ℕ) → HasFields text (codes "m ") seat at said → ⊥) → (seat at : ℕ) (said : List ℕ) → HasFields text (codes "m ") seat at said → IsSomeAnd answer (λ message. (message.seat ≡ seat) × (message.at ≡ at) × (message.text.now ≡ said))
 message_only text (Some message) h none seat at said spelled = one_fields text (codes "m ") message.seat seat message.at at message.text.now said h spelled
 message_only text None h none seat at said spelled = absurd (none seat at said spelled)
 

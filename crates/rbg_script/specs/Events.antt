@@ -2,7 +2,7 @@
 use Rattle.std.specs.Prelude.{◌≡◌, ℕ, ◌+◌, ◌*◌, ◌/◌, ◌%◌, ◌<◌, ◌^◌, Some, List, [], ◌∷◌, ◌++◌, slice_index, codes, decimal, All}
 use Rattle.std.specs.List.{flat_map}
 use Rattle.hex.specs.Hex.{hex_digit_value, lower_digits}
-use Rattle.rbg_script.specs.declared.event.Message.{Message}
+use Rattle.rbg_script.specs.declared.event.ScriptMessage.{ScriptMessage}
 use Rattle.rbg_script.specs.declared.event.ScriptEvent.{ScriptEvent}
 use Rattle.rbg_script.specs.declared.event.ScriptEvent.TheVariants.{Piece, Ended, Tick}
 
@@ -61,7 +61,7 @@ pub data SpellsEvent (text : List ℕ) : AbstractEvent → Type 0 where
   by_tick : (at : ℕ) → at < 2 ^ 64 → text ≡ tick_text at → SpellsEvent text (tick_event at)
 
 -- the text is that of an `m` line with this message
-abbrev pub SpellsMessage : List ℕ → Message → Type 0
+abbrev pub SpellsMessage : List ℕ → ScriptMessage → Type 0
 SpellsMessage text message = HasFields text (codes "m ") message.seat message.at message.text.now
 
 -- the two digits of a byte, in lower case

@@ -2,7 +2,7 @@
 
 /// An `m` line: a message that a seat sends.
 #[derive(Clone, Copy)]
-pub struct Message<'a> {
+pub struct ScriptMessage<'a> {
     pub seat: u64,
     /// The moment in milliseconds.
     pub at: u64,

@@ -16,7 +16,7 @@ ghost use Rattle.rbg_script.specs.Events.{
 ghost use Rattle.rbg_script.specs.internal.Reading.{IsNoEnd};
 
 use crate::fields::fields_in;
-use crate::{Message, ScriptEvent};
+use crate::{ScriptEvent, ScriptMessage};
 use hex::FromHexError;
 use rbg_base::{Memory, number_of_decimal};
 use rbg_wire::{after_text, cut_number};
@@ -25,7 +25,7 @@ use std::alloc::Global;
 /// The message of an `m` line that is the whole text. The call allocates nothing.
 ///
 /// Returns None if the text is no `m` line.
-pub fn read_message(line: &[u8]) -> Option<Message<'_>>
+pub fn read_message(line: &[u8]) -> Option<ScriptMessage<'_>>
     // A message that is returned is the one whose line the text is.
     ensures found { IfSome result (SpellsMessage line.now) }
     // If the text is the line of a message, that message is returned.
@@ -68,14 +68,14 @@ fn event_in(alloc: Global, line: &[u8]) -> Result<Option<ScriptEvent>, Memory>
     Ok(instant_in(line))
 }
 
-fn message_in(line: &[u8]) -> Option<Message<'_>>
+fn message_in(line: &[u8]) -> Option<ScriptMessage<'_>>
     ensures found { IfSome result (SpellsMessage line.now) }
     ensures none { IfNone result ((seat at : ℕ) (said : List ℕ)
         → HasFields line.now (codes "m ") seat at said
         → ⊥) }
 {
     let fields = fields_in(b"m ", line)?;
-    Some(Message {
+    Some(ScriptMessage {
         seat: fields.seat,
         at: fields.at,
         text: fields.rest,
@@ -83,7 +83,7 @@ fn message_in(line: &[u8]) -> Option<Message<'_>>
 }
 
 // The piece that a message makes: its text and a zero byte.
-fn piece_of(alloc: Global, message: &Message<'_>) -> Result<ScriptEvent, Memory>
+fn piece_of(alloc: Global, message: &ScriptMessage<'_>) -> Result<ScriptEvent, Memory>
     ensures { IfOk result (λ event.
         event_of event
         ≡ piece_event message.now.seat message.now.at (message.now.text.now ++ 0 ∷ [])) }

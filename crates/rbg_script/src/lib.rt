@@ -16,8 +16,10 @@ mod writer;
 pub use config::ScriptConfig;
 pub use config_reader::read_config;
 pub use error::ScriptError;
-pub use event::{Message, ScriptEvent};
+pub use event::{ScriptEvent, ScriptMessage};
 pub use event_reader::{read_event, read_message};
 pub use input::{TwoTexts, cut_at_mark};
 pub use script::{Script, read_script};
-pub use writer::{write_config, write_end, write_event, write_message, write_piece, write_tick};
+pub use writer::{
+    write_config, write_end, write_event, write_item, write_message, write_piece, write_tick,
+};

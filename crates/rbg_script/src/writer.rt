@@ -1,18 +1,23 @@
 //! The calls that write a line of a script at the end of a list of bytes.
-ghost use Rattle.std.specs.Prelude.{◌≡◌, ◌++◌, ◌<◌, All, codes, decimal, slice_index};
+ghost use Rattle.std.specs.Prelude.{◌≡◌, ◌+◌, ◌++◌, ◌<◌, All, codes, decimal, replicate, slice_index};
 ghost use Rattle.std.specs.List.{flat_map};
 ghost use Rattle.hex.specs.Hex.{lower_digits};
 ghost use Rattle.rbg_wire.specs.Writing.{Appends, AppendsAll};
+ghost use Rattle.rbg_wire.specs.Inboxes.{item_of};
 ghost use Rattle.rbg_wire.specs.Lines.{line_of};
+ghost use Rattle.rbg_wire.specs.Whole.{filler, whole_item};
 ghost use Rattle.rbg_script.specs.Config.{config_text};
 ghost use Rattle.rbg_script.specs.Events.{EventHasSpelling, HasFields, byte_text, end_event, end_text, event_of, event_text, fields_text, piece_event, tick_event, tick_text};
 
 use crate::{ScriptConfig, ScriptEvent};
 use rbg_base::Memory;
-use rbg_wire::{all_or_nothing, put_number};
+use rbg_wire::{Took, all_or_nothing, put_number};
 
 /// The hexadecimal digits that are written.
 const DIGITS: &[u8; 16] = b"0123456789abcdef";
+
+/// The byte of which the piece of a message that is too long is made.
+const FILLER: u8 = b'x';
 
 /// Appends the line of a config. It is read back as that config if its numbers are within their limits. On an error the
 /// bytes are unchanged.
@@ -48,6 +53,25 @@ pub fn write_piece(seat: u64, at: u64, bytes: &[u8], out: &mut Vec<u8>) -> Resul
     are_bytes(bytes);
     let len = out.len();
     let written = put_piece_line(seat, at, bytes, out);
+    all_or_nothing(written, len, out)
+}
+
+/// Appends the line of the piece that holds this item of a seat's stream and nothing else, as `write_piece` does. A
+/// message has at most `limit` bytes. On an error the bytes are unchanged.
+pub fn write_item(
+    seat: u64,
+    at: u64,
+    took: Took<'_>,
+    limit: usize,
+    out: &mut Vec<u8>,
+) -> Result<(), Memory>
+    ensures written { AppendsAll out.old.items out.new.items
+        (line_of (event_text (piece_event seat at (whole_item limit (item_of took.entry))))) result }
+    ensures spelled { EventHasSpelling (piece_event seat at (whole_item limit (item_of took.entry))) }
+{
+    are_item_bytes(took, limit);
+    let len = out.len();
+    let written = put_item_line(seat, at, took, limit, out);
     all_or_nothing(written, len, out)
 }
 
@@ -99,6 +123,32 @@ fn are_bytes(bytes: &[u8])
 {
     for byte in bytes {
         let _byte = *byte;
+    }
+}
+
+#[tactic(auto, unfolding(crate::specs::Events::event_text, crate::specs::Events::fields_text))]
+fn put_item_line(
+    seat: u64,
+    at: u64,
+    took: Took<'_>,
+    limit: usize,
+    out: &mut Vec<u8>,
+) -> Result<(), Memory>
+    ensures { Appends out.old.items out.new.items
+        (line_of (event_text (piece_event seat at (whole_item limit (item_of took.entry))))) result }
+{
+    put_head(b"p ", seat, at, out)?;
+    put_item(took, limit, out)?;
+    out.extend_from_slice(b"\n")
+}
+
+/// The piece that holds an item is made of bytes.
+fn are_item_bytes(took: Took<'_>, limit: usize)
+    ensures { All (λ byte. byte < 256) (whole_item limit (item_of took.entry)) }
+{
+    match took {
+        Took::Message(text) => are_bytes(text),
+        Took::TooLong => (),
     }
 }
 
@@ -180,6 +230,27 @@ fn put_digits(bytes: &[u8], out: &mut Vec<u8>) -> Result<(), Memory>
         put_byte(*byte, out)?;
     }
     Ok(())
+}
+
+// Appends the digits of the piece that holds an item and nothing else.
+fn put_item(took: Took<'_>, limit: usize, out: &mut Vec<u8>) -> Result<(), Memory>
+    ensures { Appends out.old.items out.new.items (flat_map byte_text (whole_item limit (item_of took.entry))) result }
+{
+    match took {
+        Took::Message(text) => put_digits(text, out)?,
+        Took::TooLong => put_filler(limit, out)?,
+    }
+    put_byte(0, out)
+}
+
+// Appends the digits of one filling byte more than the limit.
+fn put_filler(limit: usize, out: &mut Vec<u8>) -> Result<(), Memory>
+    ensures { Appends out.old.items out.new.items (flat_map byte_text (replicate (limit + 1) filler)) result }
+{
+    for _ in 0..limit {
+        put_byte(FILLER, out)?;
+    }
+    put_byte(FILLER, out)
 }
 
 fn put_byte(byte: u8, out: &mut Vec<u8>) -> Result<(), Memory>

@@ -37,16 +37,16 @@ module _ {way : Way} {h k : Searching} {s l : History} {f : Start} {flat : Flat}
     pub reached_here : IsReached h.game s.state f v p
     reached_here = asked_reached h.game is.finds.lawful.numbered s.state f way flat v p is.begun next_here
 
-    fresh : ¬ Contains is.pairs (v, p)
-    fresh = not_asked h.game flat v p is.pairs is.asked next_here
+    pub not_yet_asked : ¬ Contains is.pairs (v, p)
+    not_yet_asked = not_asked h.game flat v p is.pairs is.asked next_here
 
     module _ {X : Type 0} {k' : Searching} {l' : History} {callee : Result X Over} (asked : IsAsked k k' l l' pattern (at_vertex l.state v) (beginning (inside p)) k.modifiers callee) where
       pub sets_left : IsSpentButOne k'.game k'.opened k'.taken
-      sets_left = finds_left is.finds v p reached_here next_here.pattern fresh asked
+      sets_left = finds_left is.finds v p reached_here next_here.pattern not_yet_asked asked
 
       pub sets_lost : {Y : Type 0} (r : Result Y Over) (e : Over) → callee ≡ Err e → IsErrAnd r (λ y. y ≡ e) → (last : Searching) → last ≡ record k' { opened = last.opened; taken = last.taken } → last.opened ≡ k'.opened → CountsPart k'.game (CountsMet (IsMarked flat.sets)) k'.taken last.taken → IsAsked h last s l' reach s.state f h.modifiers r
       sets_lost r e was gives last kept same counts =
-          finds_lost is.finds v p reached_here next_here.pattern fresh asked r e was gives last kept same counts.many
+          finds_lost is.finds v p reached_here next_here.pattern not_yet_asked asked r e was gives last kept same counts.many
           (own_part h.game reach s.state f counts.many
           (marked_met way h.game is.finds.lawful.numbered s.state f (IsOk r) (¬ (r ≡ Err Memory)) flat counts.many is.begun counts.has
           (rules_before (λ x. counts.many ≤ most_pairs_of x) h k' (kept_twice h k k' is.finds.kept asked.kept) counts.few) (not_ok r e gives))) counts.sum
@@ -61,7 +61,7 @@ module _ {way : Way} {h k : Searching} {s l : History} {f : Start} {flat : Flat}
           search_before (λ y z. IsTrue valid ↔ Applies y.game p (at_vertex z v) (at_vertex z v)) h k s l is.finds.kept is.finds.given_back decides in
           record {
             pairs = is.pairs ++ (v, p) ∷ [];
-            finds = finds_more is.finds v p reached_here next_here.pattern fresh asked x was forced;
+            finds = finds_more is.finds v p reached_here next_here.pattern not_yet_asked asked x was forced;
             asked = takes_here.asked is.pairs is.asked;
             sets = takes_here.sets;
             begun = takes_here.begun f decides_here is.begun;

@@ -37,3 +37,5 @@ mod DeadEnds
 pub mod TakingSteps
 pub mod Turns
 pub mod Trying
+pub mod DeadWords
+mod TakenWords

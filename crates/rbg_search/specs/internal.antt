@@ -10,3 +10,4 @@ pub mod Spent
 pub mod Straight
 pub mod Taking
 pub mod Trying
+pub mod DeadWords

@@ -4,6 +4,7 @@
 mod answer;
 mod buffers;
 mod by_sets;
+mod dead_ends;
 mod flat_pool;
 mod game_steps;
 mod held_paths;

@@ -1,6 +1,6 @@
 //! Patterns that need no flat part: those whose inside is a straight line of actions, and those in which nothing goes on
 //! from the beginning. They are answered by a scan.
-ghost use Rattle.std.specs.Prelude.{◌≡◌, ◌<◌, ◌≤◌, ◌↔◌, length, Bool, Err, IfOk, IfSome, IsOk, IsTrue, OnOk};
+ghost use Rattle.std.specs.Prelude.{◌≡◌, ◌<◌, ◌≤◌, ◌↔◌, length, Bool, Err, IfOk, IfSome, IsOk, IsTrue, OnErr, OnOk};
 ghost use Rattle.rbg_rules.specs.Meaning.{Applies, IsPatternAt, inside, pattern, AbstractState, IsStateOf, beginning};
 ghost use Rattle.rbg_search.specs.Closure.{at_vertex};
 ghost use Rattle.rbg_search.specs.Forced.{CountsForced};
@@ -92,6 +92,8 @@ impl<'a, S: Steps> Search<'a, S> {
             → CountsTaken self.old.game pattern s (beginning (inside position))
             self.old.opened self.new.opened self.old.taken self.new.taken (IsOk result)
             (¬ (result ≡ Err Over.Memory)) }
+        ensures unopened { OnErr result (self.new.opened ≡ self.old.opened) }
+        ensures none_taken { OnErr result (self.new.taken ≡ self.old.taken) }
     {
         self.open()?;
         self.count_pairs(scan.pairs);

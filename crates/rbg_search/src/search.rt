@@ -538,11 +538,8 @@ impl<'a, S: Steps> Search<'a, S> {
         ensures { IfSome result (λ scan. IsTold self.now.game (at_vertex state.now.state vertex)
             (beginning (inside position)) scan.ends scan.pairs) }
     {
-        if let Some(dead) = paths.dead_end(self.rules.game(), state, position, vertex) {
-            return Some(PatternScan {
-                ends: dead.ends,
-                pairs: dead.many,
-            });
+        if let Some(scan) = self.scan_dead(paths, state, vertex, position) {
+            return Some(scan);
         }
         scan_inside(&self.rules, state, vertex, position, !paths.has_leaps())
     }
@@ -570,11 +567,13 @@ impl<'a, S: Steps> Search<'a, S> {
         self.enter(state)?;
         let mut flat = self.begun_by_sets(paths, state, origin)?;
         while let Some(Pair { vertex, position }) = self.advance_by_sets(paths, &mut flat, state) {
-            let valid = match self.ask(paths, state, vertex, position, nested) {
-                Ok(answer) => answer,
-                Err(over) => return Err(self.lose_sets(flat, over)),
-            };
-            self.take_by_sets(paths, &mut flat, state, vertex, position, valid);
+            if !self.take_dead(paths, &mut flat, state, vertex, position) {
+                let valid = match self.ask(paths, state, vertex, position, nested) {
+                    Ok(answer) => answer,
+                    Err(over) => return Err(self.lose_sets(flat, over)),
+                };
+                self.take_by_sets(paths, &mut flat, state, vertex, position, valid);
+            }
         }
         let ends = self.finish_by_sets(paths, flat, state, pairs)?;
         Ok(ends)

@@ -7,7 +7,7 @@ use Rattle.rbg_serving.specs.declared.served.ServeError.{ServeError}
 use Rattle.rbg_serving.specs.declared.served.ServeError.TheVariants.{Memory}
 use Rattle.rbg_serving.specs.Passing.{Behaviour}
 use Rattle.rbg_serving.specs.declared.logged.LoggedMatch.{LoggedMatch}
-use Rattle.rbg_serving.specs.declared.logged.Stop.TheVariants.{Time}
+use Rattle.rbg_serving.specs.declared.logged.StopReason.TheVariants.{Time}
 use Rattle.rbg_serving.specs.Logs.{IsLog, Logs, LogsPart, event_lines}
 use Rattle.rbg_serving.specs.Written.{written}
 

@@ -9,6 +9,7 @@ ghost use Rattle.rbg_serving.specs.Serving.{IsDueIn, of_match};
 
 use rbg_base::Memory;
 use rbg_match::{Event, Match, Outbox};
+use std::alloc::Global;
 
 /// What can be served, as a match: it handles events, and queues bytes for lines. Each line is a seat, and they are numbered
 /// from 1.
@@ -60,6 +61,9 @@ pub trait Engine {
     fn due(&self) -> Option<u64>
         ensures { first_due self.now result };
 
+    /// The allocator from which it takes memory.
+    fn allocator(&self) -> Global;
+
     /// The bytes that are queued for a line, which must be one of those for which it queues bytes.
     fn bytes(outbox: &Self::Outbox, line: usize) -> &[u8]
         requires from_one { 1 ≤ line }
@@ -98,6 +102,10 @@ impl Engine for Match {
 
     fn due(&self) -> Option<u64> {
         Match::due(self)
+    }
+
+    fn allocator(&self) -> Global {
+        Match::allocator(self)
     }
 
     fn bytes(outbox: &Outbox, line: usize) -> &[u8] {

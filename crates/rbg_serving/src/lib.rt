@@ -3,6 +3,7 @@
 #![tactic(auto)]
 
 mod answer;
+mod bounded_log;
 mod call;
 mod clock;
 mod cutting;
@@ -20,7 +21,6 @@ mod log_engine;
 mod log_serving;
 mod logged;
 mod memory_line;
-mod memory_log;
 mod opening;
 mod passing;
 mod rounds;
@@ -30,6 +30,7 @@ mod stumps;
 mod writing;
 
 pub use answer::{Polled, Put};
+pub use bounded_log::BoundedLog;
 pub use clock::{Clock, Pause};
 pub use cutting::whole_lines;
 pub use engine::Engine;
@@ -39,11 +40,10 @@ pub use keeping::{Log, LogFailure, WriteError};
 pub use later_clock::LaterClock;
 pub use line::Line;
 pub use list_clock::ListClock;
-pub use logged::{LoggedMatch, Stop};
+pub use logged::{LoggedMatch, StopReason};
 pub use memory_line::MemoryLine;
-pub use memory_log::MemoryLog;
-pub use opening::{OpenError, write_first};
+pub use opening::{OpenError, Opening, write_first};
 pub use served::{ServeError, Served};
 pub use serving::{serve, serve_engine};
 pub use stumps::cut_stumps;
-pub use writing::write_event;
+pub use writing::{write_arrival, write_event};

@@ -3,6 +3,7 @@ use crate::engine::Engine;
 use crate::{Log, LoggedMatch};
 use rbg_base::Memory;
 use rbg_match::{Event, Outbox};
+use std::alloc::Global;
 
 impl<W: Log> Engine for LoggedMatch<W> {
     ghost use Rattle.rbg_match.specs.Matches.{HasHistory};
@@ -42,6 +43,10 @@ impl<W: Log> Engine for LoggedMatch<W> {
 
     fn due(&self) -> Option<u64> {
         self.played.due()
+    }
+
+    fn allocator(&self) -> Global {
+        self.played.allocator()
     }
 
     fn bytes(outbox: &Outbox, line: usize) -> &[u8] {

@@ -13,7 +13,6 @@ use crate::served::{ServeError, Served};
 use crate::serving::serve_engine;
 use crate::{Log, LoggedMatch};
 use rbg_match::Outbox;
-use std::alloc::Global;
 
 impl<W: Log> LoggedMatch<W> {
     /// Serves the match over a line for each seat, as `crate::serving::serve` does, and writes each event to the log before
@@ -21,7 +20,6 @@ impl<W: Log> LoggedMatch<W> {
     /// time for the match is over, serving ends with `Memory`, and `stopped` tells why.
     pub fn serve<L: Line, C: Clock>(
         &mut self,
-        alloc: Global,
         lines: &mut [L],
         outbox: &mut Outbox,
         clock: &mut C,
@@ -43,6 +41,6 @@ impl<W: Log> LoggedMatch<W> {
         ensures game { self.new.played.game ≡ self.old.played.game }
         ensures seats { length outbox.new ≡ length outbox.old }
     {
-        serve_engine(alloc, lines, self, outbox, clock, rounds)
+        serve_engine(lines, self, outbox, clock, rounds)
     }
 }

@@ -7,7 +7,7 @@ use rbg_match::Match;
 
 /// Why no more events are handled.
 #[derive(Clone, Copy)]
-pub enum Stop {
+pub enum StopReason {
     /// The log failed.
     Log,
     /// An event came when the time for the match was over.
@@ -23,7 +23,7 @@ pub struct LoggedMatch<W: Log> {
     pub(crate) line: Vec<u8>,
     /// The first moment at which events aren't handled any more, if there is one.
     pub(crate) until: Option<u64>,
-    pub(crate) stopped: Option<Stop>,
+    pub(crate) stopped: Option<StopReason>,
 }
 
 impl<W: Log> LoggedMatch<W> {
@@ -65,7 +65,7 @@ impl<W: Log> LoggedMatch<W> {
     }
 
     /// Why no more events are handled, if so.
-    pub fn stopped(&self) -> Option<Stop>
+    pub fn stopped(&self) -> Option<StopReason>
         ensures { result ≡ self.now.stopped }
     {
         self.stopped

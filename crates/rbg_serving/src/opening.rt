@@ -23,6 +23,14 @@ pub enum OpenError {
     Write(#[from] WriteError),
 }
 
+/// How a match opens: with the text of its game, this config, and at this moment.
+#[derive(Clone, Copy)]
+pub struct Opening<'a> {
+    pub text: &'a [u8],
+    pub config: Config,
+    pub now: u64,
+}
+
 /// Writes the first line of the log of a match that begins at this moment. `line` is a buffer: what it held is lost.
 pub fn write_first<W: Log>(
     config: Config,
@@ -46,26 +54,25 @@ pub fn write_first<W: Log>(
 }
 
 impl<W: Log> LoggedMatch<W> {
-    /// Makes a match of a game at the moment `now`, and begins its log. Each seat is greeted, and play goes on from the
-    /// start. Returns the match and its outbox.
+    /// Makes a match of a game, and begins its log. Each seat is greeted, and play goes on from the start. Returns the match
+    /// and its outbox.
     pub fn open(
         alloc: Global,
         game: Game,
-        text: &[u8],
-        config: Config,
-        now: u64,
+        opening: Opening<'_>,
         log: W,
     ) -> Result<(LoggedMatch<W>, Outbox), OpenError>
-        requires { Loads text.now game }
+        requires { Loads opening.text.now game }
         ensures begins { IfOk result (λ made. W.told log [] →
-            W.told made.0.log (first_line config now)
-            × IsLog text.now (first_line config now) made.0.played made.1) }
+            W.told made.0.log (first_line opening.entry.config opening.entry.now)
+            × IsLog opening.entry.text.now (first_line opening.entry.config opening.entry.now) made.0.played made.1) }
         ensures game { IfOk result (λ made. made.0.played.game ≡ game) }
         ensures until { IfOk result (λ made. made.0.until ≡ None) }
         ensures stopped { IfOk result (λ made. made.0.stopped ≡ None) }
         ensures seats { IfOk result (λ made. length made.1 ≡ seats_of made.0.played.game) }
         ensures history { IfOk result (λ made. HasHistory made.0.played) }
     {
+        let Opening { text, config, now } = opening;
         let (played, outbox) = Match::new(alloc, game, text, config, now)?;
         let mut log = log;
         let mut line = Vec::new(alloc);

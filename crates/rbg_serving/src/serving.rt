@@ -22,7 +22,6 @@ use std::alloc::Global;
 ///
 /// Serving ends when the match has ended and each line that neither ended nor failed took all that is queued for it.
 pub fn serve<L: Line, C: Clock>(
-    alloc: Global,
     lines: &mut [L],
     refereed: &mut Match,
     outbox: &mut Outbox,
@@ -38,7 +37,7 @@ pub fn serve<L: Line, C: Clock>(
     ensures game { refereed.new.game ≡ refereed.old.game }
     ensures seats { length outbox.new ≡ length outbox.old }
 {
-    serve_engine(alloc, lines, refereed, outbox, clock, rounds)
+    serve_engine(lines, refereed, outbox, clock, rounds)
 }
 
 /// Serves what can be served, as a match, over lines, the first line's first, in that many rounds at most. In a round each
@@ -48,7 +47,6 @@ pub fn serve<L: Line, C: Clock>(
 ///
 /// Serving ends when what is served is over and each line that neither ended nor failed took all that is queued for it.
 pub fn serve_engine<L: Line, E: Engine, C: Clock>(
-    alloc: Global,
     lines: &mut [L],
     engine: &mut E,
     outbox: &mut E::Outbox,
@@ -63,8 +61,9 @@ pub fn serve_engine<L: Line, E: Engine, C: Clock>(
     ensures fixed { E.fixed engine.new ≡ E.fixed engine.old }
     ensures queues { length (E.queued outbox.new) ≡ length (E.queued outbox.old) }
 {
-    let mut states = states_at_first(alloc, lines.len())?;
-    serve_lines(lines, &mut states, engine, outbox, clock, rounds)
+    let mut states = states_at_first(engine.allocator(), lines.len())?;
+    let mut call = Call::new(lines, &mut states, engine, outbox, clock);
+    call.run(rounds)
 }
 
 /// The states of that many lines that have taken nothing.
@@ -86,30 +85,6 @@ fn states_at_first(alloc: Global, lines: usize) -> Result<Vec<LineState>, Memory
 
 /// The most bytes of a poll.
 const PIECE: usize = 4096;
-
-/// Serves over lines with these states, which have taken nothing.
-fn serve_lines<L: Line, E: Engine, C: Clock>(
-    lines: &mut [L],
-    states: &mut [LineState],
-    engine: &mut E,
-    outbox: &mut E::Outbox,
-    clock: &mut C,
-    rounds: u64,
-) -> Result<Served, ServeError>
-    requires states { length states.old ≡ length lines.old }
-    requires lines { length lines.old ≤ E.lines (E.fixed engine.old) }
-    requires queues { length (E.queued outbox.old) ≡ E.lines (E.fixed engine.old) }
-    requires first { (index : ℕ) → index < length states.old
-        → slice_index_or states.old index absent ≡ at_first }
-    ensures serves { ServesLines L.told L.failure_count C.told E.behaviour lines.old lines.new clock.old clock.new
-        rounds engine.old engine.new (E.queued outbox.old) (E.queued outbox.new) result }
-    ensures valid { (¬ IsErrOf result ServeError.Memory) → E.valid engine.old → E.valid engine.new }
-    ensures fixed { E.fixed engine.new ≡ E.fixed engine.old }
-    ensures queues { length (E.queued outbox.new) ≡ length (E.queued outbox.old) }
-{
-    let mut call = Call::new(lines, states, engine, outbox, clock);
-    call.run(rounds)
-}
 
 impl<'a, L: Line, E: Engine, C: Clock> Call<'a, L, E, C> {
     /// Whether what is served is over, and each live line took all that is queued for it.

@@ -1,10 +1,8 @@
 //! Taking out of a script the messages that weren't complete, so that new streams can go on where the old ones were cut.
 
 use rbg_base::Memory;
+use rbg_match::MESSAGE_LIMIT;
 use rbg_script::ScriptEvent;
-
-/// The longest message, in bytes.
-const MESSAGE_LIMIT: usize = 4096;
 
 /// Cuts off, for each of so many seats, the bytes of a message that wasn't complete. One that was too long already, so
 /// that the rest of it is passed over, is completed at this moment instead. So each seat's stream ends with a zero byte, or

@@ -1,5 +1,6 @@
 //! Writing an event, at its counted moment, before it is handled.
 ghost use Rattle.std.specs.Prelude.{◌≡◌, ◌∷◌, [], ℕ, OnOk, OnErr, IsErrOf, map, option_to_list};
+ghost use Rattle.rbg_match.specs.Arrivals.{arrival_of};
 ghost use Rattle.rbg_match.specs.Inputs.{counted, event_of, moment_of};
 ghost use Rattle.rbg_match.specs.Matches.{MatchState};
 ghost use Rattle.rbg_match.specs.Play.{due_of};
@@ -9,24 +10,13 @@ ghost use Rattle.rbg_serving.specs.Logs.{Logs, LogsPart, event_line, scripted};
 ghost use Rattle.rbg_serving.specs.LogServing.{IsOverAt, IsTimed};
 ghost use Rattle.rbg_serving.specs.Written.{at_moment, is_quiet, written};
 
-use crate::{Log, LoggedMatch, Stop, WriteError};
+use crate::{Log, LoggedMatch, StopReason, WriteError};
 use rbg_base::Memory;
-use rbg_match::{Event, LATEST_MOMENT, Match};
-use rbg_script::{write_end, write_piece, write_tick};
-
-/// The moment of an event.
-fn moment_of(event: Event<'_>) -> u64
-    ensures { result ≡ moment_of (event_of event.entry) }
-{
-    match event {
-        Event::Piece { at, .. } => at,
-        Event::Ended { at, .. } => at,
-        Event::Tick { at } => at,
-    }
-}
+use rbg_match::{Arrival, Event, LATEST_MOMENT, MESSAGE_LIMIT, Match};
+use rbg_script::{write_end, write_item, write_piece, write_tick};
 
 /// Appends the line of an event at this moment. On an error the bytes are unchanged.
-fn write_line(event: Event<'_>, at: u64, out: &mut Vec<u8>) -> Result<(), Memory>
+fn write_event_line(event: Event<'_>, at: u64, out: &mut Vec<u8>) -> Result<(), Memory>
     ensures written { AppendsAll out.old.items out.new.items
         (event_line (at_moment at (event_of event.entry))) result }
     ensures spelled { OnOk result
@@ -39,8 +29,21 @@ fn write_line(event: Event<'_>, at: u64, out: &mut Vec<u8>) -> Result<(), Memory
     }
 }
 
+/// Appends the line of what arrives, at this moment. On an error the bytes are unchanged.
+fn write_line(arrival: Arrival<'_>, at: u64, out: &mut Vec<u8>) -> Result<(), Memory>
+    ensures written { AppendsAll out.old.items out.new.items
+        (event_line (at_moment at (arrival_of arrival.entry))) result }
+    ensures spelled { OnOk result
+        (EventHasSpelling (scripted (at_moment at (arrival_of arrival.entry)))) }
+{
+    match arrival {
+        Arrival::Plain(event) => write_event_line(event, at, out),
+        Arrival::Item { seat, took, .. } => write_item(seat, at, took, MESSAGE_LIMIT, out),
+    }
+}
+
 /// Whether an event that counts at a moment is a moment alone, before the mover's time is over.
-fn is_quiet(event: Event<'_>, at: u64, due: u64) -> bool
+fn is_quiet_event(event: Event<'_>, at: u64, due: u64) -> bool
     ensures { (state : MatchState) →
         at ≡ counted state.streams (moment_of (event_of event.entry)) →
         due ≡ due_of state.config state.play →
@@ -53,14 +56,27 @@ fn is_quiet(event: Event<'_>, at: u64, due: u64) -> bool
     }
 }
 
-/// The counted moment at which an event is written, or None if nothing is written of it.
-fn written_at(played: &Match, event: Event<'_>) -> Option<u64>
-    ensures { map (λ (at : ℕ). at_moment at (event_of event.entry)) (option_to_list result)
-        ≡ written played.now (event_of event.entry) }
+/// Whether what counts at a moment is a moment alone, before the mover's time is over.
+fn is_quiet(arrival: Arrival<'_>, at: u64, due: u64) -> bool
+    ensures { (state : MatchState) →
+        at ≡ counted state.streams (moment_of (arrival_of arrival.entry)) →
+        due ≡ due_of state.config state.play →
+        result ≡ is_quiet state (arrival_of arrival.entry) }
+{
+    match arrival {
+        Arrival::Plain(event) => is_quiet_event(event, at, due),
+        Arrival::Item { .. } => false,
+    }
+}
+
+/// The counted moment at which an arrival is written, or None if nothing is written of it.
+fn written_at(played: &Match, arrival: Arrival<'_>) -> Option<u64>
+    ensures { map (λ (at : ℕ). at_moment at (arrival_of arrival.entry)) (option_to_list result)
+        ≡ written played.now (arrival_of arrival.entry) }
 {
     let due = played.due()?;
-    let at = played.moment().max(moment_of(event).min(LATEST_MOMENT));
-    if is_quiet(event, at, due) {
+    let at = played.moment().max(arrival.at().min(LATEST_MOMENT));
+    if is_quiet(arrival, at, due) {
         None
     } else {
         Some(at)
@@ -80,27 +96,44 @@ pub fn write_event<W: Log>(
         (written played.now (event_of event.entry))) }
     ensures kept { IsErrOf result WriteError.Memory → log.new ≡ log.old }
 {
-    match written_at(played, event) {
+    write_arrival(played, Arrival::Plain(event), log, line)
+}
+
+/// Writes the line of what arrives at a match, if it has one: of an item that of the piece that holds it and nothing else.
+/// `line` is a buffer: what it held is lost.
+pub fn write_arrival<W: Log>(
+    played: &Match,
+    arrival: Arrival<'_>,
+    log: &mut W,
+    line: &mut Vec<u8>,
+) -> Result<(), WriteError>
+    ensures ok { OnOk result (Logs W.told log.old log.new
+        (written played.now (arrival_of arrival.entry))) }
+    ensures err { OnErr result (LogsPart W.told log.old log.new
+        (written played.now (arrival_of arrival.entry))) }
+    ensures kept { IsErrOf result WriteError.Memory → log.new ≡ log.old }
+{
+    match written_at(played, arrival) {
         None => Ok(()),
-        Some(at) => write_at(event, at, log, line),
+        Some(at) => write_at(arrival, at, log, line),
     }
 }
 
-/// Writes an event at this moment.
+/// Writes what arrives, at this moment.
 fn write_at<W: Log>(
-    event: Event<'_>,
+    arrival: Arrival<'_>,
     at: u64,
     log: &mut W,
     line: &mut Vec<u8>,
 ) -> Result<(), WriteError>
     ensures ok { OnOk result (Logs W.told log.old log.new
-        (at_moment at (event_of event.entry) ∷ [])) }
+        (at_moment at (arrival_of arrival.entry) ∷ [])) }
     ensures err { OnErr result (LogsPart W.told log.old log.new
-        (at_moment at (event_of event.entry) ∷ [])) }
+        (at_moment at (arrival_of arrival.entry) ∷ [])) }
     ensures kept { IsErrOf result WriteError.Memory → log.new ≡ log.old }
 {
     line.clear();
-    write_line(event, at, line)?;
+    write_line(arrival, at, line)?;
     log.append(line.as_slice())?;
     Ok(())
 }
@@ -121,15 +154,15 @@ impl<W: Log> LoggedMatch<W> {
         if self.stopped.is_some() {
             return Err(Memory);
         }
-        if self.is_over_at(moment_of(event)) {
-            self.stopped = Some(Stop::Time);
+        if self.is_over_at(event.at()) {
+            self.stopped = Some(StopReason::Time);
             return Err(Memory);
         }
         match write_event(&self.played, event, &mut self.log, &mut self.line) {
             Ok(()) => Ok(()),
             Err(WriteError::Memory) => Err(Memory),
             Err(WriteError::Log) => {
-                self.stopped = Some(Stop::Log);
+                self.stopped = Some(StopReason::Log);
                 Err(Memory)
             }
         }

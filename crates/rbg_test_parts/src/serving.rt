@@ -80,7 +80,7 @@ fn serve_over<L: Line>(
         return Err(ServeError::Memory);
     }
     let mut clock = ListClock::new(Vec::new(alloc));
-    serve(alloc, lines, opened, outbox, &mut clock, 100)
+    serve(lines, opened, outbox, &mut clock, 100)
 }
 
 /// Serves a match over the lines.

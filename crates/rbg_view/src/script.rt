@@ -82,7 +82,26 @@ const RbgBoard = (() => {
         if (weight > 0) places[one] = [x / weight, y / weight];
       }
     }
-    return places.map(([x, y]) => [x * 13, y * 13]);
+    return movedApart(places.map(([x, y]) => [x * 13, y * 13]), rounds);
+  };
+
+  /* Moves places apart that are so near that one would hide the other. */
+  const movedApart = (places, rounds) => {
+    const least = 10;
+    for (let round = 0; round < rounds; round += 1) {
+      for (let one = 0; one < places.length; one += 1) {
+        for (let two = 0; two < one; two += 1) {
+          const [dx, dy] = [places[one][0] - places[two][0], places[one][1] - places[two][1]];
+          if (Math.abs(dx) >= least || Math.abs(dy) >= least) continue;
+          const length = Math.hypot(dx, dy);
+          if (length >= least || length === 0) continue;
+          const part = (least - length) / length / 4;
+          places[one] = [places[one][0] + dx * part, places[one][1] + dy * part];
+          places[two] = [places[two][0] - dx * part, places[two][1] - dy * part];
+        }
+      }
+    }
+    return places;
   };
 
   /* The layout of a graph whose vertices nothing else places. */
@@ -199,108 +218,152 @@ const RbgBoard = (() => {
     return element;
   };
 
-  /* A board with more squares has no dots on those that can be clicked. */
-  const MANY = 1024;
+  /* Shapes around a point. */
+  const disc = radius => 'm-' + radius + ' 0a' + radius + ' ' + radius + ' 0 1 0 ' + 2 * radius + ' 0a' + radius + ' ' + radius + ' 0 1 0-' + 2 * radius + ' 0z';
+  const [DISC, RING, DOT] = [3.7, 4.4, 1.1].map(disc);
+  const BLOCK = 'm-1.9-2.9h3.8a1 1 0 0 1 1 1v3.8a1 1 0 0 1-1 1h-3.8a1 1 0 0 1-1-1v-3.8a1 1 0 0 1 1-1z';
 
-  const HEXAGON = 'M0-5.77 5-2.89 5 2.89 0 5.77-5 2.89-5-2.89z';
-
-  const putCell = (shape, group) => {
-    if (shape === 'square') make('rect', { class: 'cell', x: -5, y: -5, width: 10, height: 10 }, group);
-    else if (shape === 'hexagon') make('path', { class: 'cell', d: HEXAGON }, group);
-    else make('circle', { class: 'cell', r: shape === 'point' ? 2.2 : 3.6 }, group);
+  /* For each shape of squares: that of a square, that of a frame within it, and how far from the middle a pointer may be. */
+  const SQUARES = {
+    square: { cell: 'm-5-5h10v10h-10z', frame: 'm-4.7-4.7h9.4v9.4h-9.4z', reach: 5 },
+    hexagon: { cell: 'm0-5.77l5 2.88v5.78l-5 2.88-5-2.88v-5.78z', frame: 'm0-5.42l4.7 2.71v5.42l-4.7 2.71-4.7-2.71v-5.42z', reach: 5.77 },
+    point: { cell: disc(2.2), frame: disc(2.2), reach: 5 },
+    round: { cell: disc(3.6), frame: disc(3.6), reach: 5 },
   };
 
-  /* Draws a piece into a group. */
-  const makePiece = (look, group) => {
-    const ink = isDark(look.colour) ? '#fff' : '#111';
-    if (look.shape === 'sign') {
-      const line = isDark(look.colour) ? { stroke: '#fffc', 'stroke-width': 0.3 } : { stroke: '#000', 'stroke-width': 0.35 };
-      const text = make('text', { class: 'sign', 'font-size': 8.4, fill: look.colour, 'paint-order': 'stroke', ...line }, group);
-      text.textContent = look.sign;
-      return;
-    }
-    if (look.shape === 'disc') make('circle', { class: 'body', r: 3.7, fill: look.colour }, group);
-    else make('rect', { class: 'body', x: -2.9, y: -2.9, width: 5.8, height: 5.8, rx: 1, fill: look.colour }, group);
+  const moveTo = ([x, y]) => 'M' + x + ' ' + y;
+
+  /* Draws a piece on each of some places, in one path and one text. */
+  const putPiece = (look, places, group) => {
+    if (look.hidden || places.length === 0) return;
+    const isSign = look.shape === 'sign';
+    if (!isSign) make('path', { class: 'body', fill: look.colour, d: places.map(place => moveTo(place) + (look.shape === 'disc' ? DISC : BLOCK)).join('') }, group);
     if (look.sign === '') return;
-    const text = make('text', { class: 'sign', 'font-size': look.sign.length < 2 ? 4.6 : look.sign.length < 3 ? 3.6 : 2.6, fill: ink }, group);
-    text.textContent = look.sign;
-  };
-
-  /* Draws a piece into a group, in place of what is there. Each look is made once and copied. */
-  const made = new WeakMap();
-  const putPiece = (look, group) => {
-    group.replaceChildren();
-    if (!look || look.hidden) return;
-    if (!made.has(look)) { made.set(look, make('g', {})); makePiece(look, made.get(look)); }
-    group.append(made.get(look).cloneNode(true));
+    const isWhite = isDark(look.colour);
+    const line = isWhite ? { stroke: '#fffc', 'stroke-width': 0.3 } : { stroke: '#000', 'stroke-width': 0.35 };
+    const inks = isSign ? { fill: look.colour, 'paint-order': 'stroke', ...line } : { fill: isWhite ? '#fff' : '#111' };
+    const size = isSign ? 8.4 : look.sign.length < 2 ? 4.6 : look.sign.length < 3 ? 3.6 : 2.6;
+    const text = make('text', { class: 'sign', 'font-size': size, ...inks }, group);
+    if ([...look.sign].length === 1) {
+      [0, 1].forEach(axis => text.setAttribute('xy'[axis], places.map(place => place[axis]).join(' ')));
+      text.textContent = look.sign.repeat(places.length);
+    } else for (const [x, y] of places) make('tspan', { x, y }, text).textContent = look.sign;
   };
 
   /* A picture of one piece, as an element of its own. */
   const pictureOf = look => {
     const picture = make('svg', { class: 'board picture', viewBox: '-5 -5 10 10', 'aria-hidden': 'true' });
-    putPiece(look, make('g', {}, picture));
+    putPiece(look, [[0, 0]], picture);
     return picture;
   };
 
-  /* Makes the drawing of a game's board. Its squares may have a role. */
-  const draw = (game, role) => {
+  /* Draws what stays: lines, squares and names. Squares of one colour are one path, so that large boards are drawn as fast. */
+  const putBoard = (game, places, group) => {
     const { layout } = game;
+    const [, , width, height] = layout.frame;
+    const { cell } = SQUARES[layout.shape];
+    make('path', { class: 'edges', d: layout.lines.map(([from, to]) => moveTo(places[from]) + 'L' + places[to].join(' ')).join('') }, group);
+    const size = Math.min(4.5, Math.max(2.6, Math.max(width, height) / 40));
+    for (const [x, y, name] of layout.edgeNames) make('text', { class: 'name', x, y, style: 'font-size: ' + size.toFixed(1) + 'px' }, group).textContent = name;
+    const cells = isDark => places.filter((_, vertex) => Boolean(layout.dark[vertex]) === isDark).map(place => moveTo(place) + cell).join('');
+    make('path', { class: 'cell', d: cells(false) }, group);
+    make('path', { class: 'cell dark', d: cells(true) }, group);
+    const { names } = layout;
+    if (layout.shape !== 'round' || names.length > (names.every(name => name.length < 4) ? 150 : 30)) return;
+    places.forEach(([x, y], vertex) => { make('text', { class: 'name', x: x + 4.6, y: y + 4.4 }, group).textContent = names[vertex]; });
+  };
+
+  /* Makes the drawing of a game's board. */
+  const draw = game => {
+    const { layout } = game;
+    const { shape } = layout;
+    const { cell, frame, reach } = SQUARES[shape];
+    const places = layout.places.map(place => place.map(part => Number(part.toFixed(2))));
     const seen = { movers: new Set(), put: game.pieces.map(() => new Set()) };
     let looks = looksOf(game, seen);
     const [, , width, height] = layout.frame;
-    const svg = make('svg', { class: 'board', viewBox: layout.frame.join(' '), role: 'group', 'aria-label': 'board' });
-    const lines = make('path', { class: 'edges', d: layout.lines.map(([from, to]) => 'M' + layout.places[from].map(part => part.toFixed(1)).join(' ') + 'L' + layout.places[to].map(part => part.toFixed(1)).join(' ')).join('') }, svg);
-    const size = Math.min(4.5, Math.max(2.6, Math.max(width, height) / 40));
-    for (const [x, y, name] of layout.edgeNames) make('text', { class: 'name', x, y, style: 'font-size: ' + size.toFixed(1) + 'px' }, svg).textContent = name;
-    const kept = make('g', { class: layout.shape === 'round' ? 'graph' : layout.shape === 'point' ? 'points' : 'rows' }, svg);
-    const isLabelled = layout.shape === 'round' && (layout.names.length <= 30 || (layout.names.length <= 150 && layout.names.every(name => name.length < 4)));
-    const blank = make('g', role ? { role, tabindex: -1 } : {});
-    putCell(layout.shape, blank);
-    if (layout.places.length <= MANY) make('circle', { class: 'dot', r: 1.1 }, blank);
-    if (isLabelled) make('text', { class: 'name', x: 4.6, y: 4.4 }, blank);
-    const cells = layout.places.map(([x, y], vertex) => {
-      const group = blank.cloneNode(true);
-      group.setAttribute('transform', 'translate(' + x + ' ' + y + ')');
-      group.setAttribute('data-vertex', vertex);
-      if (layout.dark[vertex]) group.setAttribute('class', 'dark');
-      if (isLabelled) group.lastChild.textContent = layout.names[vertex];
-      return { group, piece: null, held: -1, marks: '' };
-    });
-    kept.append(...cells.map(cell => cell.group));
-    const putOn = (cell, look) => {
-      if (!cell.piece && (!look || look.hidden)) return;
-      if (!cell.piece) { cell.piece = make('g', { class: 'piece' }); cell.group.firstChild.after(cell.piece); }
-      putPiece(look, cell.piece);
+    const svg = make('svg', { class: 'board ' + (shape === 'round' ? 'graph' : shape === 'point' ? 'points' : 'rows'), viewBox: layout.frame.join(' '), style: '--thin: ' + Math.min(1, Math.max(width, height) / 80).toFixed(2), role: 'img', 'aria-label': 'board' });
+    const all = make('g', {}, svg);
+    const title = make('title', {}, all);
+    putBoard(game, places, all);
+
+    /* Paths of marks below and above the pieces. Each is written only if it is another one. */
+    const layer = name => {
+      const path = make('path', { class: name }, all);
+      let kept = '';
+      return (vertices, shapesOf) => {
+        const d = vertices.map(vertex => shapesOf(vertex).map(outline => moveTo(places[vertex]) + outline).join('')).join('');
+        if (d !== kept) { kept = d; path.setAttribute('d', d); }
+      };
     };
-    const show = (pieces, marksOf) => {
-      cells.forEach((cell, vertex) => {
-        if (cell.held !== pieces[vertex]) {
-          cell.held = pieces[vertex];
-          putOn(cell, looks[cell.held]);
-          cell.group.setAttribute('aria-label', vertex + ' ' + layout.names[vertex] + ': ' + game.pieces[cell.held]);
-        }
-        const marks = (layout.dark[vertex] ? 'dark ' : '') + (looks[cell.held] && !looks[cell.held].hidden ? 'held ' : '') + marksOf(vertex);
-        if (cell.marks !== marks) { cell.marks = marks; cell.group.setAttribute('class', marks.trim()); }
+    const [changed, chosen] = ['cell changed', 'cell chosen'].map(layer);
+    const held = game.pieces.map(() => ({ group: make('g', {}, all), on: '' }));
+    const [turned, can, hint, spot, dots] = ['frame turned', 'frame can', 'frame hint', 'frame spot', 'dot'].map(layer);
+
+    const showPieces = board => {
+      const on = held.map(() => []);
+      board.forEach((piece, vertex) => on[piece].push(vertex));
+      held.forEach((one, piece) => {
+        const now = on[piece].join(' ');
+        if (one.on === now) return;
+        one.on = now;
+        one.group.replaceChildren();
+        putPiece(looks[piece], on[piece].map(vertex => places[vertex]), one.group);
       });
     };
-    /* What a pointer shows is written when it comes. */
-    svg.addEventListener('pointerover', event => {
-      const group = event.target.closest('[data-vertex]');
-      if (!group) return;
-      const title = group.querySelector('title') || make('title', {}, group);
-      title.textContent = group.getAttribute('aria-label');
-    });
-    const drawn = { svg, cells, show, layout, looks, lines, width, height };
+
+    let shown = [];
+    const isRow = shape === 'square' || shape === 'hexagon';
+    const lookAt = vertex => looks[shown[vertex]];
+    const around = vertex => { const look = lookAt(vertex); return look.hidden ? [] : look.shape === 'disc' ? [DISC] : look.shape === 'block' ? [BLOCK] : isRow ? [] : [RING]; };
+    const framed = vertex => isRow || lookAt(vertex).hidden ? [frame] : around(vertex);
+
+    /* Shows a board, and marks squares of it. */
+    const show = (board, marks) => {
+      shown = board;
+      showPieces(board);
+      const marked = name => marks[name] || [];
+      changed(marked('changed'), () => [cell]);
+      chosen(marked('chosen'), () => [cell]);
+      turned(isRow ? [] : marked('changed'), around);
+      can(marked('can'), vertex => isRow ? [frame, ...around(vertex)] : framed(vertex));
+      hint(marked('hint'), framed);
+      dots(marked('can').filter(vertex => lookAt(vertex).hidden), () => [DOT]);
+    };
+
+    /* The vertex at which an event is, or -1. */
+    const vertexAt = event => {
+      const { x, y } = new DOMPoint(event.clientX, event.clientY).matrixTransform(svg.getScreenCTM().inverse());
+      let nearest = -1;
+      let least = reach;
+      places.forEach((place, vertex) => {
+        const [aside, along] = [Math.abs(place[0] - x), Math.abs(place[1] - y)];
+        const far = shape === 'square' ? Math.max(aside, along) : Math.hypot(aside, along);
+        if (far < least) { least = far; nearest = vertex; }
+      });
+      return nearest;
+    };
+
+    /* Where the middle of a vertex is in the window. */
+    const pointOf = vertex => { const { x, y } = new DOMPoint(...places[vertex]).matrixTransform(svg.getScreenCTM()); return [x, y]; };
+
+    /* What is told of a vertex: its number, its name and its piece. */
+    const tell = vertex => vertex + ' ' + layout.names[vertex] + ': ' + game.pieces[shown[vertex]];
+    svg.addEventListener('pointermove', event => { const vertex = vertexAt(event); title.textContent = vertex < 0 ? '' : tell(vertex); });
+
+    const drawn = { svg, show, tell, vertexAt, pointOf, layout, looks, width, height };
+    /* Frames the square that the keys have reached. */
+    drawn.frame = vertex => spot([vertex], framed);
     /* Learns which pieces the moves of a player put, and draws them in its colour. */
-    drawn.learn = (player, changed) => {
+    drawn.learn = (player, moves) => {
       if (player === 0) return;
-      const fresh = changed.filter(({ is }) => !seen.put[is].has(player));
+      const fresh = moves.filter(({ is }) => !seen.put[is].has(player));
       if (fresh.length === 0 && seen.movers.has(player)) return;
       seen.movers.add(player);
       for (const { is } of fresh) seen.put[is].add(player);
       looks = looksOf(game, seen);
       drawn.looks = looks;
-      for (const cell of cells) cell.held = -1;
+      for (const one of held) one.on = '';
     };
     return drawn;
   };
@@ -334,6 +397,6 @@ const RbgBoard = (() => {
     return spell(game, drawing, changed, pairs) + keeper;
   };
 
-  return { LINE, read, draw, changes, differences, spell, spellStep, pictureOf, putPiece };
+  return { LINE, read, draw, changes, differences, spell, spellStep, pictureOf };
 })();
 ";

@@ -7,26 +7,22 @@ pub const BOARD_STYLE: &[u8] =
   :root { --page: #16181c; --ink: #e4e4e4; --soft: #a0a0a0; --rule: #444; --light: #8d7d60; --dark: #6b5a40; --line: #2e2719; --mark: #ff8a75; --ring: #ffe1da; --can: #d6eaff; --now: #b98d12; --changed: #a8632a; }
 }
 .board { display: block; width: 100%; overflow: visible; user-select: none; touch-action: manipulation; }
+.board:focus { outline: none; }
 .board .cell { fill: var(--light); stroke: var(--line); stroke-width: .2; }
-.board .dark .cell { fill: var(--dark); }
-.board .points .cell, .board .graph .cell { stroke-width: .25; }
+.board .dark { fill: var(--dark); }
+.board .changed { fill: var(--changed); }
+.board .chosen { fill: var(--now); }
 .board .edges { stroke: var(--line); stroke-width: .35; fill: none; }
 @media (prefers-color-scheme: dark) { .board .edges { stroke: #8d7d60; } }
-.board .changed .cell { fill: var(--changed); }
-.board .chosen .cell { fill: var(--now); }
-.board .rows .can .cell, .board .rows .hint .cell, .board .rows g:focus-visible .cell { transform: scale(.94); }
-.board .can .cell { stroke: var(--can); stroke-width: .6; }
-.board .can { cursor: pointer; }
-.board .hint .cell { stroke: var(--ring); stroke-width: 1; }
-.board .dot { fill: none; pointer-events: none; }
-.board .can .dot { fill: var(--can); stroke: #fff; stroke-width: .2; }
-.board .held .dot { display: none; }
-.board .piece { pointer-events: none; }
+.board .frame { fill: none; }
+.board .can { stroke: var(--can); stroke-width: calc(var(--thin) * .6px); }
+.board .hint { stroke: var(--ring); stroke-width: calc(var(--thin) * 1px); }
+.board .spot { stroke: var(--ring); stroke-width: calc(var(--thin) * 1.1px); display: none; }
+.board:focus-visible .spot { display: inline; }
+.board .dot { fill: var(--can); stroke: #fff; stroke-width: .2; }
 .board .body { stroke: #0009; stroke-width: .3; }
-.board .points .changed .body, .board .graph .changed .body { stroke: var(--mark); stroke-width: .9; }
-.board .held.can .piece .body { stroke: var(--can); stroke-width: .7; }
-.board .sign { text-anchor: middle; dominant-baseline: central; font-family: 'DejaVu Sans', 'Segoe UI Symbol', 'Noto Sans Symbols 2', system-ui, sans-serif; }
+.board .turned { stroke: var(--mark); stroke-width: .9; }
+.board .sign, .board .sign tspan { text-anchor: middle; dominant-baseline: central; }
+.board .sign { font-family: 'DejaVu Sans', 'Segoe UI Symbol', 'Noto Sans Symbols 2', system-ui, sans-serif; }
 .board .name { font-size: 2.6px; text-anchor: middle; dominant-baseline: central; fill: var(--soft); stroke: var(--page); stroke-width: .5; paint-order: stroke; font-family: system-ui, sans-serif; }
-.board g:focus { outline: none; }
-.board g:focus-visible .cell { stroke: var(--ring); stroke-width: 1.1; }
 ";

@@ -89,8 +89,7 @@ pub(crate) const END: &[u8] = b"(() => {
     now = Math.max(0, Math.min(steps.length - 1, to));
     const step = steps[now];
     slider.value = now;
-    const marked = new Set(step.changed.map(change => change.vertex));
-    drawing.show(step.board, vertex => marked.has(vertex) ? 'changed' : '');
+    drawing.show(step.board, { changed: step.changed.map(change => change.vertex) });
     Array.from(get('values').children).forEach((item, at) => { item.textContent = step.values[at]; });
     const last = now === steps.length - 1;
     get('now').textContent = last ? outcome : name(step.player) + ' is to move';

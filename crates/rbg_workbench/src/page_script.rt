@@ -5,7 +5,6 @@ pub(crate) const PLAY_SCRIPT: &[u8] = b"'use strict';
 const RbgPlay = (() => {
   const { LINE } = RbgBoard;
   const get = id => document.getElementById(id);
-  const isTouched = { hash: false };
 
   /* What is known of the server and of the game. */
   let stamp = 0;
@@ -21,8 +20,9 @@ const RbgPlay = (() => {
   let isCut = false;
 
   let chosen = [];
+  let next = new Set();
   let focused = 0;
-  let reachable = null;
+  let pointed = -1;
   let thinking = 0;
   let hinted = [];
   let isBusy = false;
@@ -119,43 +119,53 @@ const RbgPlay = (() => {
 
   const isPass = pairs => pairs.length === 2 && !legal.some(move => move !== pairs && move.pairs !== pairs && move.pairs.length === 2 && move.pairs[1] === pairs[1] && move.pairs[0] !== pairs[0]);
 
-  /* The squares that a move changes, in the order in which they are clicked: from, to, and what else changes. */
-  const inOrder = (changed, mover) => {
-    const ownerOf = piece => drawing.looks[piece].owner;
-    const isMine = piece => ownerOf(piece) === mover && !drawing.looks[piece].hidden;
-    const rank = ({ was, is }, order) => {
-      if (isMine(was) && !isMine(is)) return order.left ? 3 : (order.left = true, 0);
-      if (isMine(is) && !isMine(was)) return drawing.looks[was].hidden ? 1 : 1.5;
-      if (!drawing.looks[is].hidden && ownerOf(is) === 0) return 2;
-      return 3;
-    };
-    const order = { left: false, first: changed.some(({ was, is }) => isMine(was) && !isMine(is)) };
-    /* Of several arrivals the farthest one comes first: a king that castles goes beyond its rook. */
-    const ranked = changed.map((change, index) => [rank(change, order), index, change.vertex]).map(([level, index, vertex]) => [level, level === 1 && order.first ? -index : index, vertex]);
-    ranked.sort((one, two) => one[0] - two[0] || one[1] - two[1]);
-    return ranked.map(part => part[2]);
+  /* The ways in which the squares that a move changes are clicked: for each piece of the mover that leaves a square, from there,
+     to where its pieces arrive, the farthest first, and then what else changes. */
+  const waysOf = (changed, mover) => {
+    const isMine = piece => drawing.looks[piece].owner === mover && !drawing.looks[piece].hidden;
+    const isNobodys = piece => !drawing.looks[piece].hidden && drawing.looks[piece].owner === 0;
+    const rank = ({ was, is }) => isMine(is) && !isMine(was) ? (drawing.looks[was].hidden ? 1 : 1.5) : isNobodys(is) ? 2 : 3;
+    const far = (one, other) => Math.hypot(...[0, 1].map(axis => drawing.layout.places[one][axis] - drawing.layout.places[other][axis]));
+    const after = (first, others) => others
+      .map((change, index) => [rank(change), first && rank(change) === 1 ? -far(first.vertex, change.vertex) : 0, index, change.vertex])
+      .sort((one, two) => one[0] - two[0] || one[1] - two[1] || one[2] - two[2]).map(part => part[3]);
+    const left = changed.filter(({ was, is }) => isMine(was) && !isMine(is));
+    if (left.length === 0 || changed.length < 2) return [after(null, changed)];
+    return left.map(first => [first.vertex, ...after(first, changed.filter(change => change !== first))]);
   };
 
-  /* Finds the squares of a move, and those of its other pairs. */
-  const findSquares = (move, mover) => {
+  /* Finds the squares of a move, in each way, and those of its other pairs. */
+  const findSquares = move => {
     const { changed, pairs } = move;
-    move.squares = changed.length < 2 ? changed.map(change => change.vertex) : inOrder(changed, mover);
+    move.ways = waysOf(changed, steps[at].standing.player);
+    const [squares] = move.ways;
     move.others = [];
-    for (let one = 0; one < pairs.length; one += 2) if (!move.squares.includes(pairs[one]) && !move.others.includes(pairs[one])) move.others.push(pairs[one]);
+    for (let one = 0; one < pairs.length; one += 2) if (!squares.includes(pairs[one]) && !move.others.includes(pairs[one])) move.others.push(pairs[one]);
+  };
+
+  /* Leaves out the ways on which another move would be done before, if there are others: who castles begins with the king. */
+  const chooseWays = () => {
+    const done = new Set(legal.filter(move => move.ways.length === 1).map(move => move.ways[0].join(' ')));
+    const isOwn = way => !way.some((_, at) => at > 0 && done.has(way.slice(0, at).join(' ')));
+    for (const move of legal) if (move.ways.length > 1 && move.ways.some(isOwn)) move.ways = move.ways.filter(isOwn);
   };
 
   /* Finds what is clicked for each move. Where squares alone don't tell moves apart, those of their other pairs are clicked too. */
   const findClicks = () => {
+    legal.forEach(findSquares);
+    chooseWays();
     const keys = new Map();
     for (const move of legal) {
-      findSquares(move, steps[at].standing.player);
-      const key = move.squares.join(' ');
+      const key = move.ways[0].join(' ');
       if (keys.has(key)) keys.get(key).push(move); else keys.set(key, [move]);
     }
     for (const [key, same] of keys) {
       const differ = same.length > 1 && new Set(same.map(move => move.others.join(' '))).size > 1;
       const isPlain = differ && key === '' && same.length < 5 && new Set(same.map(move => move.pairs.filter((_, one) => one % 2 === 1).join(' '))).size === same.length;
-      for (const move of same) move.clicks = differ && !isPlain ? [...move.squares, ...move.others] : move.squares;
+      for (const move of same) {
+        if (differ && !isPlain) move.ways = move.ways.map(way => [...way, ...move.others]);
+        move.clicks = move.ways[0];
+      }
     }
   };
 
@@ -165,24 +175,34 @@ const RbgPlay = (() => {
     findClicks();
   };
 
-  const fitting = () => legal.filter(move => chosen.every((vertex, index) => move.clicks[index] === vertex));
+  /* The ways of a move that begin with some clicks, and the moves that have such. */
+  const waysFrom = (move, clicks) => move.ways.filter(way => clicks.every((vertex, index) => way[index] === vertex));
+  const fitting = clicks => legal.filter(move => waysFrom(move, clicks).length > 0);
 
   /* Shows all. A new drawing comes onto the page once its pieces are there. */
   const show = () => {
     const step = steps[at];
     if (!step) return;
     const person = isPerson(step.standing.player);
-    const fits = fitting();
-    const next = new Set(person ? fits.map(move => move.clicks[chosen.length]).filter(vertex => vertex !== undefined) : []);
+    const fits = fitting(chosen);
+    next = new Set(person ? fits.flatMap(move => waysFrom(move, chosen).map(way => way[chosen.length])).filter(vertex => vertex !== undefined) : []);
     const changed = new Set(at > 0 ? [...step.changed, ...step.settled].map(change => change.vertex) : []);
-    drawing.show(step.board, vertex => (chosen.includes(vertex) ? 'chosen ' : changed.has(vertex) ? 'changed ' : '') + (next.has(vertex) ? 'can ' : '') + (hinted.includes(vertex) ? 'hint ' : ''));
-    letFocus(focused);
-    if (!drawing.svg.isConnected) get('stage').replaceChildren(drawing.svg);
+    drawing.show(step.board, { changed: [...changed], chosen, can: [...next], hint: hinted });
+    drawing.frame(focused);
+    tellSquare(pointed);
+    putOnStage();
     showTurn(step);
     showChoices(person ? fits : []);
     showLists(step);
     document.body.dataset.at = at;
     document.body.dataset.ready = isBusy ? 'no' : 'yes';
+  };
+
+  const putOnStage = () => {
+    if (drawing.svg.isConnected) return;
+    const isFocused = get('stage').contains(document.activeElement);
+    get('stage').replaceChildren(drawing.svg);
+    if (isFocused) drawing.svg.focus({ preventScroll: true });
   };
 
   const playerName = player => player > 0 ? game.players[player - 1] : 'the keeper';
@@ -219,7 +239,7 @@ const RbgPlay = (() => {
   const showChoices = fits => {
     const box = get('choices');
     box.replaceChildren();
-    const done = fits.filter(move => move.clicks.length === chosen.length);
+    const done = fits.filter(move => waysFrom(move, chosen).some(way => way.length === chosen.length));
     const choices = done.map(move => choice(move, done));
     const labels = choices.map(made => made.textContent);
     choices.forEach((made, index) => {
@@ -264,8 +284,8 @@ const RbgPlay = (() => {
         item = document.createElement('li');
         list.append(item);
       }
-      const text = index === 0 ? 'the beginning' : index + ' ' + playerName(one.mover) + ': ' + RbgBoard.spellStep(game, drawing, one);
-      if (item.textContent !== text) item.textContent = text;
+      one.text = one.text || (index === 0 ? 'the beginning' : index + ' ' + playerName(one.mover) + ': ' + RbgBoard.spellStep(game, drawing, one));
+      if (item.textContent !== one.text) item.textContent = one.text;
       item.className = index === at ? 'now' : index > at ? 'later' : '';
       item.onclick = () => goTo(index);
     });
@@ -275,7 +295,7 @@ const RbgPlay = (() => {
     get('first').disabled = at === 0;
     get('redo').disabled = at === steps.length - 1;
     get('hint').disabled = legal.length === 0;
-    if (isTouched.hash || at > 0) { isTouched.hash = true; history.replaceState(null, '', '#' + at); }
+    if (location.hash !== '#' + at && (at > 0 || location.hash !== '')) history.replaceState(null, '', '#' + at);
   };
 
   /* One thing at a time. */
@@ -357,18 +377,15 @@ const RbgPlay = (() => {
     if (isBusy || !steps[at] || !isPerson(steps[at].standing.player)) return;
     focused = vertex;
     if (chosen.length > 0 && vertex === chosen[0]) { chosen = []; show(); return; }
-    const next = [...chosen, vertex];
-    const fits = legal.filter(move => next.every((one, index) => move.clicks[index] === one));
+    const clicks = [...chosen, vertex];
+    let fits = fitting(clicks);
     if (fits.length === 0) {
       /* One move alone may be meant, in another order. */
-      const meant = chosen.length > 0 ? legal.filter(move => next.every(one => move.clicks.includes(one))) : [];
+      const meant = chosen.length > 0 ? legal.filter(move => clicks.every(one => move.clicks.includes(one))) : [];
       if (meant.length === 1) { play(meant[0]); return; }
-      const afresh = legal.filter(move => move.clicks[0] === vertex);
-      chosen = afresh.length > 0 ? [vertex] : [];
-      if (afresh.length === 1) play(afresh[0]); else show();
-      return;
-    }
-    chosen = next;
+      fits = fitting([vertex]);
+      chosen = fits.length > 0 ? [vertex] : [];
+    } else chosen = clicks;
     if (fits.length === 1) play(fits[0]); else show();
   };
 
@@ -385,19 +402,31 @@ const RbgPlay = (() => {
     return best;
   };
 
-  /* One square can be reached by the key Tab. */
-  const letFocus = vertex => {
-    const { group } = drawing.cells[vertex];
-    if (reachable === group) return;
-    if (reachable) reachable.setAttribute('tabindex', '-1');
-    group.setAttribute('tabindex', '0');
-    reachable = group;
-  };
-
+  /* Leads the keys to a square, and tells of it. */
   const focus = vertex => {
     focused = vertex;
-    letFocus(vertex);
-    drawing.cells[vertex].group.focus();
+    drawing.frame(vertex);
+    drawing.svg.focus({ preventScroll: true });
+    bringIntoView(vertex);
+    tellSquare(vertex);
+  };
+
+  /* Scrolls a square into the part of the board that can be seen. */
+  const bringIntoView = vertex => {
+    const stage = get('stage');
+    const box = stage.getBoundingClientRect();
+    const [x, y] = drawing.pointOf(vertex);
+    if (x < box.left || x > box.right || y < box.top || y > box.bottom) stage.scrollBy(x - box.left - box.width / 2, y - box.top - box.height / 2);
+    const now = drawing.pointOf(vertex)[1];
+    if (now < 0 || now > innerHeight) scrollBy(0, now - innerHeight / 2);
+  };
+
+  /* Tells of the square at which a pointer or the keys are. */
+  const tellSquare = vertex => {
+    pointed = vertex;
+    const text = vertex < 0 ? '' : drawing.tell(vertex) + (chosen.includes(vertex) ? ', chosen' : next.has(vertex) ? ', can be chosen' : '');
+    if (get('spot').textContent !== text) get('spot').textContent = text;
+    drawing.svg.style.cursor = next.has(vertex) ? 'pointer' : '';
   };
 
   document.addEventListener('keydown', event => {
@@ -528,29 +557,35 @@ const RbgPlay = (() => {
     else get('problem').textContent = text.trim() || 'no position';
   };
 
-  /* The players' moves of a record, a script or a list of moves. */
+  /* The lines of a record, a script or a list that are moves of players, each with the pairs that it may mean: before those of a
+     list there may be a player, or a moment and a player. */
   const movesIn = text => {
     const lines = text.split(LINE).map(line => line.trim());
-    const isTwo = lines[0] === 'rbg 2';
-    const isOne = lines[0] === 'rbg 1';
-    const moves = [];
-    for (const line of lines) {
-      const words = line.split(' ');
-      let numbers = null;
-      if (isTwo) { if (/^[0-9]+ [1-9][0-9]* [0-9 ]+$/.test(line)) numbers = words.slice(2); }
-      else if (isOne) { if (/^[1-9][0-9]* [0-9 ]+$/.test(line)) numbers = words.slice(1); }
-      else if (/^m [0-9]+ [0-9]+ M[0-9 ]+$/.test(line)) numbers = line.split(' M')[1].split(' ');
-      else if (/^(move [0-9]+ )?[0-9]+( [0-9]+)*$/.test(line)) numbers = words[0] === 'move' ? words.slice(2) : words;
-      if (numbers) moves.push(numbers.map(Number));
-    }
-    return moves;
+    const numbersOf = line => line.split(' ').map(Number);
+    const isRecord = lines[0] === 'rbg 1' || lines[0] === 'rbg 2';
+    const before = lines[0] === 'rbg 2' ? 1 : 0;
+    return lines.map(line => {
+      if (/^[0-9]+( [0-9]+)+$/.test(line)) {
+        const numbers = numbersOf(line);
+        if (isRecord) return numbers[before] > 0 ? [numbers.slice(before + 1)] : [];
+        return [0, 1, 2].map(front => numbers.slice(front)).filter(pairs => pairs.length > 0 && pairs.length % 2 === 0);
+      }
+      const said = isRecord ? null : line.match(/^(m [0-9]+ [0-9]+ M|move [0-9]+ )([0-9 ]+)$/);
+      return said ? [numbersOf(said[2])] : [];
+    }).filter(readings => readings.length > 0);
   };
 
   const open = (name, text) => inTurn(async () => {
+    if (!game) return;
     const moves = movesIn(text);
+    if (moves.length === 0) { get('problem').textContent = name + ': it has no moves'; return; }
     await restart();
     let count = 0;
-    for (const pairs of moves) { if (!await make(pairs)) break; count += 1; }
+    for (const readings of moves) {
+      const legalOne = readings.find(pairs => legal.some(move => move.pairs.join(' ') === pairs.join(' '))) || readings[0];
+      if (!await make(legalOne)) break;
+      count += 1;
+    }
     get('problem').textContent = name + ': ' + (count === moves.length ? count + ' moves' : 'move ' + (count + 1) + ' is not legal here');
   });
 
@@ -573,7 +608,6 @@ const RbgPlay = (() => {
   /* Looks whether the file has changed. */
   const look = async () => {
     const state = await stateOf();
-    stamp = state.stamp;
     isRefused = state.refused === 1;
     get('notes').textContent = state.notes;
     get('notes').dataset.kind = isRefused ? 'refused' : state.notes.startsWith('no warnings') ? 'quiet' : 'warned';
@@ -584,25 +618,36 @@ const RbgPlay = (() => {
   const load = async () => {
     game = RbgBoard.read(await (await fetch('/game')).text());
     version = game.version;
-    stamp = (await stateOf()).stamp;
-    drawing = RbgBoard.draw(game, 'button');
+    const state = await stateOf();
+    stamp = state.stamp;
+    drawing = RbgBoard.draw(game);
+    pointed = -1;
     get('title').textContent = game.title;
     document.title = game.title;
     get('rules').textContent = game.text;
-    focused = Math.min(focused, drawing.cells.length - 1);
-    drawing.svg.addEventListener('click', event => {
-      const group = event.target.closest('[data-vertex]');
-      if (group) click(Number(group.dataset.vertex));
-    });
+    focused = Math.min(focused, drawing.layout.places.length - 1);
+    listen(drawing.svg);
+    for (const id of ['nearer', 'farther', 'save', 'save-position', 'file']) get(id).disabled = false;
+    get('problem').textContent = '';
     sizeBoard();
     showSides();
     const old = steps.slice(1, at + 1);
     steps = [];
     at = 0;
+    if (state.made > 0) await ask(['back ' + state.made]);
     await begin();
     await getToKnow();
     await replay(old);
+    if (at < old.length) get('problem').textContent = 'the rules have changed: move ' + (at + 1) + ' of ' + old.length + ' is not legal now';
     document.body.dataset.version = version;
+  };
+
+  /* The board can be reached by the key Tab, and by a pointer. */
+  const listen = svg => {
+    for (const [name, value] of Object.entries({ tabindex: 0, role: 'application', 'aria-label': 'the board', 'aria-describedby': 'spot' })) svg.setAttribute(name, value);
+    svg.addEventListener('click', event => { const vertex = drawing.vertexAt(event); if (vertex >= 0) click(vertex); });
+    svg.addEventListener('pointermove', event => tellSquare(drawing.vertexAt(event)));
+    svg.addEventListener('focus', () => { if (svg.matches(':focus-visible')) tellSquare(focused); });
   };
 
   const start = () => {

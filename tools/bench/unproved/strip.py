@@ -6,6 +6,7 @@ from pathlib import Path
 
 HINT = re.compile(r"#\[(inline\(always\)|inline\(never\)|inline|cold)\]")
 FUNCTION = re.compile(r'(?:pub(?:\([^)]*\))? )?(?:const )?(?:unsafe )?(?:final )?(?:extern "C" )?fn (\w+)')
+TYPE = re.compile(r"impl(?:<.*?>)? (?:.* for )?(\w+)")
 NAMED = re.compile(r'define .*?@"?([^"(]+)"?\(')
 WORDS = {"inline(always)": "alwaysinline", "inline(never)": "noinline", "inline": "inlinehint", "cold": "cold"}
 # What a proved program doesn't do: checks, stops where a proof says that none comes, and filling memory before it is written.
@@ -15,19 +16,28 @@ Hints = dict[tuple[str, str], list[str]]
 
 
 def hints_of(module: str, lines: Iterable[str]) -> Hints:
-    """What the sources of a module say of inlining, by the module and the name of each function.
+    """What the sources of a module say of inlining, by the module and the name of each function. A method stands under
+    its crate and its type, since its symbol names the module of the type, and not that of the method.
 
     >>> hints_of("low::at", ["#[inline]", "// short", "pub(crate) fn first(", "#[cold]", "", "fn fails() {"])
     {('low::at', 'first'): ['inlinehint'], ('low::at', 'fails'): ['cold']}
+    >>> hints_of("low::at", ["impl<'a, S: Steps> Set<'a, S> {", "    #[cold]", "    fn first(", "}"])
+    {('low Set', 'first'): ['cold']}
     """
     hints: Hints = {}
     waiting: list[str] = []
-    for line in map(str.strip, lines):
+    at = module
+    for text in lines:
+        if owner := TYPE.match(text):
+            at = f"{module.split('::')[0]} {owner[1]}"
+        elif text.startswith("}"):
+            at = module
+        line = text.strip()
         if hint := HINT.match(line):
             waiting.append(WORDS[hint[1]])
         elif line and not line.startswith(("#[", "//")):
             if waiting and (named := FUNCTION.match(line)):
-                hints[module, named[1]] = waiting
+                hints[at, named[1]] = waiting
             waiting = []
     return hints
 
@@ -45,11 +55,11 @@ def hints_below(crate: str, sources: Path) -> Hints:
 def hint(symbol: str, hints: Hints) -> str:
     """What LLVM is to know of a symbol. A method's symbol has its type between the module and the name.
 
-    >>> hint("low::at::Set::first::<#3a>", {("low::at", "first"): ["inlinehint"]})
+    >>> hint("low::at::Set::first::<#3a>", {("low Set", "first"): ["inlinehint"]})
     ' inlinehint'
     """
     *path, name = re.sub(r"::<#[0-9a-f]+>$", "", symbol).split("::")
-    modules = ("::".join(path[:length]) for length in range(len(path), 0, -1))
+    modules = ["::".join(path), *(f"{path[0]} {part}" for part in path[-1:])]
     return "".join(f" {word}" for module in modules for word in hints.get((module, name), []))
 
 

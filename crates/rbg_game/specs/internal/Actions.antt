@@ -3,8 +3,9 @@ use Rattle.std.specs.Prelude.{◌≡◌, ℕ, ◌+◌, ◌<◌, ◌≤◌, List,
 use Rattle.rbg_grammar.specs.Tree.{SpeltName, SpeltExpression, SpeltAction}
 use Rattle.rbg_rules.specs.Meaning.{skip, most_positions, most_nested_patterns, action_of, shows_pattern}
 use Rattle.rbg_rules.specs.declared.rule.Action.{Action}
-use Rattle.rbg_game.specs.declared.numbering_error.NumberingError.{NumberingError}
-use Rattle.rbg_game.specs.declared.numbering_error.NumberingError.TheVariants.{SwitchInPattern, PatternTooDeep, TooManyPositions, Memory}
+use Rattle.rbg_game.specs.declared.game_error.GameError.{GameError}
+use Rattle.rbg_game.specs.declared.game_error.GameError.TheVariants.{SwitchInPattern, PatternTooDeep, TooMany, Memory}
+use Rattle.rbg_game.specs.declared.game_error.Thing.TheVariants.{Positions}
 use Rattle.rbg_game.specs.NameNumbers.{Names, IsNumberOf}
 use Rattle.rbg_game.specs.Rules.{ActionIs}
 use Rattle.rbg_game.specs.RuleFaults.{Purpose, names_for, Uses, HasExpression, HasArithmeticFault}
@@ -28,12 +29,12 @@ player_names None = []
 player_names (Some name) = name ∷ []
 
 -- What is wrong with an action, if `left` patterns may still be opened.
-pub data HasActionFault (names : Names) (left : ℕ) : SpeltAction → NumberingError → Type 0 where
-  of_use : {action : SpeltAction} {purpose : Purpose} {used : List SpeltName} {error : NumberingError}
+pub data HasActionFault (names : Names) (left : ℕ) : SpeltAction → GameError → Type 0 where
+  of_use : {action : SpeltAction} {purpose : Purpose} {used : List SpeltName} {error : GameError}
       → Uses action purpose used
       → HasLookUpFault (names_for names purpose) used error
       → HasActionFault names left action error
-  of_expression : {action : SpeltAction} {e : SpeltExpression} {error : NumberingError}
+  of_expression : {action : SpeltAction} {e : SpeltExpression} {error : GameError}
       → HasExpression action e
       → HasArithmeticFault names e error
       → HasActionFault names left action error
@@ -57,10 +58,10 @@ pub record OpensPattern (left : ℕ) (pattern : Action) (old new : List Action) 
   pub position : p ≡ length new
 
 -- Why the pattern at this offset is not added to a table of `before` actions.
-pub data HasOpeningFault (left at before : ℕ) : NumberingError → Type 0 where
+pub data HasOpeningFault (left at before : ℕ) : GameError → Type 0 where
   too_many :
       most_positions ≤ before
-      → HasOpeningFault left at before TooManyPositions
+      → HasOpeningFault left at before (TooMany Positions)
   too_deep :
       left ≡ 0
       → HasOpeningFault left at before (PatternTooDeep at)

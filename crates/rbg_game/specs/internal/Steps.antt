@@ -5,8 +5,9 @@ use Rattle.rbg_grammar.specs.Tree.{SpeltName, SpeltExpression, SpeltRule, SpeltA
 use Rattle.rbg_rules.specs.Meaning.{AbstractAction, switch, positive, negative, Expression, act, skip, sequence, fail, choice, star, most_positions, most_nested_patterns, positions_of, IsWithin, expression_of}
 use Rattle.rbg_rules.specs.declared.rule.Action.{Action}
 use Rattle.rbg_rules.specs.declared.rule.Rule.{Rule}
-use Rattle.rbg_game.specs.declared.numbering_error.NumberingError.{NumberingError}
-use Rattle.rbg_game.specs.declared.numbering_error.NumberingError.TheVariants.{UnknownName, SwitchInPattern, PatternTooDeep, TooManyPositions, Memory}
+use Rattle.rbg_game.specs.declared.game_error.GameError.{GameError}
+use Rattle.rbg_game.specs.declared.game_error.GameError.TheVariants.{UnknownName, SwitchInPattern, PatternTooDeep, TooMany, Memory}
+use Rattle.rbg_game.specs.declared.game_error.Thing.TheVariants.{Positions}
 use Rattle.rbg_game.specs.NameNumbers.{Names}
 use Rattle.rbg_game.specs.Rules.{RuleIs}
 use Rattle.rbg_game.specs.RuleFaults.{HasUnknown, Purpose, names_for, Uses, HasExpression, HasArithmeticFault, HasSpeltAction, HasPattern, HasPatternInside, HasSwitch, actions_in}
@@ -68,13 +69,13 @@ pub record AddsParts (names : Names) (left : ℕ) (rs : List SpeltRule) (old new
   pub numbers : AreNumbered names left rs (length old) (map (expression_of new) xs)
 
 -- What is wrong with a rule after `before` actions, if `left` patterns may still be opened.
-pub data HasFaultFrom (names : Names) (left before : ℕ) (rule : SpeltRule) : NumberingError → Type 0 where
+pub data HasFaultFrom (names : Names) (left before : ℕ) (rule : SpeltRule) : GameError → Type 0 where
   from_use : {action : SpeltAction} {purpose : Purpose} {used : List SpeltName} {at : ℕ}
       → HasSpeltAction rule action
       → Uses action purpose used
       → HasUnknown (names_for names purpose) used at
       → HasFaultFrom names left before rule (UnknownName at)
-  from_arithmetic : {action : SpeltAction} {e : SpeltExpression} {error : NumberingError}
+  from_arithmetic : {action : SpeltAction} {e : SpeltExpression} {error : GameError}
       → HasSpeltAction rule action
       → HasExpression action e
       → HasArithmeticFault names e error
@@ -92,6 +93,6 @@ pub data HasFaultFrom (names : Names) (left before : ℕ) (rule : SpeltRule) : N
       → HasFaultFrom names left before rule (PatternTooDeep at)
   from_positions :
       most_positions < before + actions_in rule
-      → HasFaultFrom names left before rule TooManyPositions
+      → HasFaultFrom names left before rule (TooMany Positions)
   from_memory :
       HasFaultFrom names left before rule Memory

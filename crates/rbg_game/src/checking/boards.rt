@@ -13,7 +13,6 @@ use crate::checking::directions::number_directions;
 use crate::checking::graphs::make_graph;
 use crate::game_error::GameError;
 use crate::name_table::NameTable;
-use crate::numbering_error::NumberingError;
 use rbg_board::{Board, BoardError, MAX_VERTICES, hexagon, rectangle};
 use rbg_grammar::{Name, ParsedBoard};
 use rbg_rules::limits::{MAX_DIRECTIONS, MAX_PIECES};
@@ -31,7 +30,7 @@ fn number_rows(
     alloc: Global,
     pieces: &NameTable,
     rows: &[Vec<Name<'_>>],
-) -> Result<Vec<Vec<u16>>, NumberingError>
+) -> Result<Vec<Vec<u16>>, GameError>
     requires { length pieces.now ≤ 2 ^ 16 }
     ensures numbers { IfOk result (λ ns.
         AllZip (AllZip (IsNumberOf pieces.now)) (map names_of rows.now) (rows_of ns.items)) }
@@ -95,7 +94,7 @@ fn number_parts(
     names: &[Name<'_>],
     numbers: &mut [u16],
     rows: &[Vec<Name<'_>>],
-) -> Result<NumberedRows, NumberingError>
+) -> Result<NumberedRows, GameError>
     requires pieces { length pieces.now ≤ 2 ^ 16 }
     requires one_each { length numbers.old ≡ length names.now }
     requires few { length names.now ≤ MAX_DIRECTIONS }

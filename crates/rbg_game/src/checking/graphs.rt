@@ -16,7 +16,6 @@ use crate::checking::boards::{NamedBoard, named};
 use crate::checking::directions::join;
 use crate::game_error::{GameError, Thing, refuse_many};
 use crate::name_table::NameTable;
-use crate::numbering_error::NumberingError;
 use rbg_board::{BoardError, Cell, MAX_VERTICES, graph};
 use rbg_grammar::{Edge, Vertex};
 use rbg_rules::limits::{MAX_DIRECTIONS, MAX_PIECES};
@@ -27,7 +26,7 @@ fn number_pieces(
     alloc: Global,
     pieces: &NameTable,
     vertices: &[Vertex<'_>],
-) -> Result<Vec<u16>, NumberingError>
+) -> Result<Vec<u16>, GameError>
     requires { length pieces.now ≤ 2 ^ 16 }
     ensures numbers { IfOk result
         (λ ns. AllZip (IsNumberOf pieces.now) (board_pieces (graph (map vertex_of vertices.now)))
@@ -43,10 +42,10 @@ fn number_pieces(
 }
 
 /// Adds the directions of edges that are new to the table.
-fn join_directions(table: &mut NameTable, edges: &[Edge<'_>]) -> Result<(), NumberingError>
+fn join_directions(table: &mut NameTable, edges: &[Edge<'_>]) -> Result<(), GameError>
     ensures order { OnOk result (AddsInOrder (edge_directions (map edge_of edges.now)) table.old
         table.new) }
-    ensures memory { IfErr result (λ error. error ≡ NumberingError.Memory) }
+    ensures memory { IfErr result (λ error. error ≡ GameError.Memory) }
 {
     for edge in edges {
         join(table, &edge.direction)?;
@@ -55,10 +54,10 @@ fn join_directions(table: &mut NameTable, edges: &[Edge<'_>]) -> Result<(), Numb
 }
 
 /// The directions of vertices in order of first use.
-fn name_directions(alloc: Global, vertices: &[Vertex<'_>]) -> Result<NameTable, NumberingError>
+fn name_directions(alloc: Global, vertices: &[Vertex<'_>]) -> Result<NameTable, GameError>
     ensures order { IfOk result (IsOrderOfFirstUse
         (directions_named (map vertex_of vertices.now))) }
-    ensures memory { IfErr result (λ error. error ≡ NumberingError.Memory) }
+    ensures memory { IfErr result (λ error. error ≡ GameError.Memory) }
 {
     let mut table = NameTable::new(alloc);
     for vertex in vertices {
@@ -92,13 +91,13 @@ fn number_edges(
     directions: &NameTable,
     names: &NameTable,
     edges: &[Edge<'_>],
-) -> Result<Vec<(u16, u32)>, NumberingError>
+) -> Result<Vec<(u16, u32)>, GameError>
     requires few { length directions.now ≤ MAX_DIRECTIONS }
     requires known { All (λ edge. Contains directions.now edge.direction.text.now) edges.now }
     requires vertices { length names.now ≤ MAX_VERTICES }
     ensures edges { IfOk result (λ es.
         AllZip (IsEdge directions.now names.now) (map edge_of edges.now) es.items) }
-    ensures memory { IfErr result (λ error. error ≡ NumberingError.Memory) }
+    ensures memory { IfErr result (λ error. error ≡ GameError.Memory) }
 {
     let mut numbers = Vec::with_capacity(alloc, edges.len())?;
     for edge in edges {
@@ -116,7 +115,7 @@ fn number_cells(
     directions: &NameTable,
     names: &NameTable,
     vertices: &[Vertex<'_>],
-) -> Result<Vec<Cell>, NumberingError>
+) -> Result<Vec<Cell>, GameError>
     requires few { length directions.now ≤ MAX_DIRECTIONS }
     requires known { IsOrderOfFirstUse (directions_named (map vertex_of vertices.now))
         directions.now }
@@ -127,7 +126,7 @@ fn number_cells(
         AllZip (IsNumberOf table) (board_pieces (graph (map vertex_of vertices.now))) pieces.now →
         AllZip (IsCell table directions.now names.now) (map vertex_of vertices.now)
         (written_of cells.items)) }
-    ensures memory { IfErr result (λ error. error ≡ NumberingError.Memory) }
+    ensures memory { IfErr result (λ error. error ≡ GameError.Memory) }
 {
     let mut cells = Vec::with_capacity(alloc, vertices.len())?;
     for (place, vertex) in vertices.iter().enumerate() {

@@ -11,7 +11,6 @@ ghost use Rattle.rbg_game.specs.internal.Things.{AddsBounds, AreThingsOf};
 
 use crate::game_error::{GameError, Thing, refuse_many};
 use crate::name_table::NameTable;
-use crate::numbering_error::NumberingError;
 use rbg_grammar::{Bounded, DescriptionParts, Name, Number};
 use rbg_rules::limits::{MAX_BOUND, MAX_PIECES, MAX_PLAYERS, MAX_VARIABLES};
 use std::alloc::Global;
@@ -57,7 +56,7 @@ pub(crate) fn number_things(
 }
 
 /// Adds names after those of the table.
-fn add_names(table: &mut NameTable, names: &[Name<'_>]) -> Result<(), NumberingError>
+fn add_names(table: &mut NameTable, names: &[Name<'_>]) -> Result<(), GameError>
     ensures names { OnOk result (table.new ≡ table.old ++ texts_of (map name_of names.now)) }
     ensures fault { IfErr result (HasNameFault table.old (map name_of names.now)) }
 {

@@ -1,6 +1,7 @@
 -- What the parts of a hall of the code stand for.
 use Rattle.std.specs.Prelude.{◌≡◌, ◌+◌, ◌<◌, ℕ, List, [], All, length, map, replicate, slice_get, Some}
-use Rattle.rbg_wire.specs.Streams.{Stream, incomplete}
+use Rattle.rbg_wire.specs.Streams.{IsRest, Item, Stream, incomplete}
+use Rattle.rbg_wire.specs.Whole.{IsCutAlone}
 use Rattle.rbg_match.specs.Config.{IsWithinLimits}
 use Rattle.rbg_match.specs.Limits.{message_limit}
 use Rattle.rbg_hall.specs.TableLimits.{lines_in_all}
@@ -36,10 +37,15 @@ pub record IsPlaced (table tables index : ℕ) : Type 0 where
   pub number : table ≡ index + 1
   pub within : index < tables
 
--- The inbox has the limit of a message, and no complete item is left in it.
+-- The inbox has the limit of a message, and no complete item is left in it. The rest is one within the limit.
 pub record IsEmptied (inbox : Stream) : Type 0 where
   pub limit : inbox.limit ≡ message_limit
   pub empty : inbox.items ≡ []
+  pub short : IsRest message_limit inbox.rest
+
+-- each of these items is one of a stream
+abbrev pub AreWhole : List Item → Type 0
+AreWhole items = All (IsCutAlone message_limit) items
 
 -- The inbox of a line is emptied, and there is the table for which it asks.
 abbrev pub IsReady : (tables : ℕ) → LinePhase → Type 0

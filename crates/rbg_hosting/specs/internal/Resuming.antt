@@ -5,8 +5,8 @@ use Rattle.rbg_hall.specs.Halls.{begun_at}
 use Rattle.rbg_hall.specs.Tables.{TableState}
 use Rattle.rbg_match.specs.Matches.{MatchState}
 use Rattle.rbg_match.specs.declared.config.Config.{Config}
-use Rattle.rbg_network.specs.declared.seating.Place.{Place}
-use Rattle.rbg_network.specs.declared.seating.Place.TheVariants.{Known, New, Nobody}
+use Rattle.rbg_network.specs.declared.seating.LinePlace.{LinePlace}
+use Rattle.rbg_network.specs.declared.seating.LinePlace.TheVariants.{Known, New, Nobody}
 use Rattle.rbg_script.specs.Scripts.{AbstractScript, script_of}
 use Rattle.rbg_hosting.specs.Pasts.{AreLogs, HasConfig, config_from}
 use Rattle.rbg_hosting.specs.declared.past.Past.{Past}
@@ -20,17 +20,17 @@ abbrev pub pasts_in : List Past → List (Option AbstractScript)
 pasts_in pasts = map past_in_code pasts
 
 -- for whom a line of a match of this number is that has begun: for nobody, if it has ended; else for one who had the seat before
-abbrev pub place_by : (has_ended : Bool) → (number : ℕ) → Place
+abbrev pub place_by : (has_ended : Bool) → (number : ℕ) → LinePlace
 place_by true number = Nobody
 place_by false number = Known number
 
 -- the same of any match; of one that hasn't begun it is for one who asks for the seat
-abbrev pub place_for : Option MatchState → (number : ℕ) → Place
+abbrev pub place_for : Option MatchState → (number : ℕ) → LinePlace
 place_for None number = New number
 place_for (Some playing) number = place_by (is_some playing.play.outcome) number
 
 -- for whom the lines are of the matches from this number on, which have so many players: each match has one for each of them
-abbrev pub places_from : List TableState → (number : ℕ) → (players : List ℕ) → List Place
+abbrev pub places_from : List TableState → (number : ℕ) → (players : List ℕ) → List LinePlace
 places_from tables number [] = []
 places_from tables number (many ∷ players) = replicate many (place_for (begun_at tables number) number) ++ places_from tables (number + 1) players
 

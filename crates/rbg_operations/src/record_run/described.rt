@@ -12,6 +12,7 @@ use crate::referee::answer_texts;
 use crate::texts::Texts;
 use rbg_console::Files;
 use rbg_referee::Answer;
+use rbg_script::TwoTexts;
 use std::alloc::{AllocError, Global};
 
 /// The answer to what was read of a description and a script. What is longer than it may be has no match.
@@ -30,13 +31,11 @@ pub(super) fn record_read<F: Files>(
     match &texts.description {
         Some(description) => match &texts.told {
             Some(script) => {
-                record_texts(
-                    alloc,
-                    target,
-                    files,
-                    description.as_slice(),
-                    script.as_slice(),
-                )
+                let both = TwoTexts {
+                    description: description.as_slice(),
+                    script: script.as_slice(),
+                };
+                record_texts(alloc, target, files, both)
             }
             None => answer_texts(alloc, texts),
         },

@@ -5,6 +5,7 @@ ghost use Rattle.rbg_operations.specs.internal.RecordParts.{RecordsMatch, Record
 use crate::{Recorded, referee_recorded};
 use rbg_console::{Files, Status, fill_file};
 use rbg_referee::{Answer, answer_device, answer_fault};
+use rbg_script::TwoTexts;
 use std::alloc::{AllocError, Global};
 
 /// Creates the file for the record, referees the match, and writes the record.
@@ -12,14 +13,13 @@ pub(super) fn record_texts<F: Files>(
     alloc: Global,
     target: &str,
     files: &mut F,
-    description: &[u8],
-    script: &[u8],
+    texts: TwoTexts<'_>,
 ) -> Result<Answer, AllocError>
     ensures { IfOk result (λ answer. RecordsTexts F.knows_new (F.told files.old target.now)
-        (F.told files.new target.now) description.now script.now answer.text.items answer.status) }
+        (F.told files.new target.now) texts.entry.description.now texts.entry.script.now answer.text.items answer.status) }
 {
     match files.create_file(alloc, target) {
-        Ok(file) => record_match(alloc, target, file, files, description, script),
+        Ok(file) => record_match(alloc, target, file, files, texts),
         Err(_) => answer_device(alloc),
     }
 }
@@ -30,14 +30,13 @@ fn record_match<F: Files>(
     target: &str,
     file: F::NewFile,
     files: &mut F,
-    description: &[u8],
-    script: &[u8],
+    texts: TwoTexts<'_>,
 ) -> Result<Answer, AllocError>
     requires { F.knows_new → F.NewFile.contents file ≡ Some [] }
     ensures { IfOk result (λ answer. RecordsMatch F.knows_new (F.told files.new target.now)
-        description.now script.now answer.text.items answer.status) }
+        texts.entry.description.now texts.entry.script.now answer.text.items answer.status) }
 {
-    match referee_recorded(alloc, description, script) {
+    match referee_recorded(alloc, texts.description, texts.script) {
         Ok(recorded) => write_recorded(alloc, target, file, files, recorded),
         Err(error) => answer_fault(alloc, error),
     }

@@ -19,7 +19,7 @@ pub(super) fn record_marked<F: Files>(
         (F.told files.new target.now) input.now answer.text.items answer.status) }
 {
     match cut_at_mark(input) {
-        Some(texts) => record_texts(alloc, target, files, texts.description, texts.script),
+        Some(texts) => record_texts(alloc, target, files, texts),
         None => answer_script(alloc, 0),
     }
 }

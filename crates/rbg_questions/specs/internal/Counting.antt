@@ -1,16 +1,16 @@
 -- One more match in a list of counted ones.
 use Rattle.std.specs.Prelude.{◌≡◌, ◌≢◌, ℕ, ◌+◌, ◌<◌, ◌^◌, List, [], ◌∷◌, ◌++◌, length, slice_get, Some, All, Option}
-use Rattle.rbg_questions.specs.declared.tally.Tally.{Tally}
+use Rattle.rbg_questions.specs.declared.tally.EndingTally.{EndingTally}
 use Rattle.rbg_questions.specs.Chance.{Counted, scores_of}
 
 -- The numbers of the tally can still grow.
-abbrev pub IsSmall : Tally → Type 0
+abbrev pub IsSmall : EndingTally → Type 0
 IsSmall tally = (tally.matches < 2 ^ 63) × (tally.moves < 2 ^ 62)
 
 -- The tally at this index is that of the matches that ended so.
-pub record IsTallyAt (scores : Option (List ℕ)) (tallies : List Tally) (index : ℕ) : Type 0 where
+pub record IsTallyAt (scores : Option (List ℕ)) (tallies : List EndingTally) (index : ℕ) : Type 0 where
   pub within : index < length tallies
-  pub tally : Tally
+  pub tally : EndingTally
   pub stands : slice_get tallies index ≡ Some tally
   pub same : scores_of tally.ending ≡ scores
 

@@ -2,8 +2,8 @@
 use Rattle.std.specs.Prelude.{◌≢◌, ℕ, List, All}
 use Rattle.rbg_rules.specs.Meaning.{AbstractGame, AbstractPlace, Legal, IsPlaceOf, IsHeavyToFind, IsHeavyToTry, IsTooHard, list_moves}
 use Rattle.rbg_moves.specs.Settling.{IsEndless, MeetsHeavy}
-use Rattle.rbg_questions.specs.declared.refusal.Refusal.{Refusal}
-use Rattle.rbg_questions.specs.declared.refusal.Refusal.TheVariants.{Illegal, NoPlace, Over, Keeper, Memory}
+use Rattle.rbg_questions.specs.declared.question_error.QuestionError.{QuestionError}
+use Rattle.rbg_questions.specs.declared.question_error.QuestionError.TheVariants.{Illegal, NoPlace, Over, Keeper, Memory}
 use Rattle.rbg_questions.specs.Packing.{packed_text}
 use Rattle.rbg_questions.specs.Sessions.{AreHeard, HasLedTo}
 
@@ -20,28 +20,28 @@ pub record IsHeardPlace (game : AbstractGame) (origin place : AbstractPlace) : T
   pub heard : AreHeard game origin place
 
 -- Why the legal moves aren't listed.
-pub data IsUnlisted (game : AbstractGame) (place : AbstractPlace) : Refusal → Type 0 where
+pub data IsUnlisted (game : AbstractGame) (place : AbstractPlace) : QuestionError → Type 0 where
   too_hard : IsTooHard game list_moves place → IsUnlisted game place Over
   no_room : IsUnlisted game place Memory
 
 -- Why a move that was heard isn't followed.
-pub data IsUnfollowed (game : AbstractGame) (from : AbstractPlace) (pairs : List (ℕ × ℕ)) : Refusal → Type 0 where
+pub data IsUnfollowed (game : AbstractGame) (from : AbstractPlace) (pairs : List (ℕ × ℕ)) : QuestionError → Type 0 where
   not_legal : ((to : AbstractPlace) → ¬ Legal game from pairs to) → IsUnfollowed game from pairs Illegal
   hard_to_try : IsHeavyToTry game from pairs → IsUnfollowed game from pairs Over
   lost : IsUnfollowed game from pairs Memory
 
 -- Why no place is unpacked.
-pub data IsNotUnpacked (game : AbstractGame) (text : List ℕ) : Refusal → Type 0 where
+pub data IsNotUnpacked (game : AbstractGame) (text : List ℕ) : QuestionError → Type 0 where
   no_place : ((place : AbstractPlace) → IsPlaceOf game place → text ≢ packed_text place) → IsNotUnpacked game text NoPlace
   no_bytes : IsNotUnpacked game text Memory
 
 -- Why how play stands isn't told.
-pub data IsUntold (game : AbstractGame) (place : AbstractPlace) : Refusal → Type 0 where
+pub data IsUntold (game : AbstractGame) (place : AbstractPlace) : QuestionError → Type 0 where
   heavy : IsHeavyToFind game place → IsUntold game place Over
   memory : IsUntold game place Memory
 
 -- Why a move isn't made.
-pub data IsUnmade (game : AbstractGame) (from : AbstractPlace) (pairs : List (ℕ × ℕ)) : Refusal → Type 0 where
+pub data IsUnmade (game : AbstractGame) (from : AbstractPlace) (pairs : List (ℕ × ℕ)) : QuestionError → Type 0 where
   illegal : ((to : AbstractPlace) → ¬ Legal game from pairs to) → IsUnmade game from pairs Illegal
   heavy_to_try : IsHeavyToTry game from pairs → IsUnmade game from pairs Over
   heavy_to_settle : {middle : AbstractPlace} →

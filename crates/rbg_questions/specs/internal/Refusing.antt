@@ -3,17 +3,17 @@ use Rattle.rbg_search.specs.declared.over.Over.{Over as AnyOver}
 use Rattle.rbg_search.specs.declared.over.Over.TheVariants.{Deep, Wide, Memory as OverMemory}
 use Rattle.rbg_moves.specs.declared.unsettled.Unsettled.{Unsettled}
 use Rattle.rbg_moves.specs.declared.unsettled.Unsettled.TheVariants.{Heavy, Endless, Memory as UnsettledMemory}
-use Rattle.rbg_questions.specs.declared.refusal.Refusal.{Refusal}
-use Rattle.rbg_questions.specs.declared.refusal.Refusal.TheVariants.{Over, Keeper, Memory}
+use Rattle.rbg_questions.specs.declared.question_error.QuestionError.{QuestionError}
+use Rattle.rbg_questions.specs.declared.question_error.QuestionError.TheVariants.{Over, Keeper, Memory}
 
 -- the refusal where a question is given up
-abbrev pub refusal_of_over : AnyOver → Refusal
+abbrev pub refusal_of_over : AnyOver → QuestionError
 refusal_of_over Deep = Over
 refusal_of_over Wide = Over
 refusal_of_over OverMemory = Memory
 
 -- and where the keeper's moves lead to no place where play rests
-abbrev pub refusal_of_unsettled : Unsettled → Refusal
+abbrev pub refusal_of_unsettled : Unsettled → QuestionError
 refusal_of_unsettled Heavy = Over
 refusal_of_unsettled Endless = Keeper
 refusal_of_unsettled UnsettledMemory = Memory

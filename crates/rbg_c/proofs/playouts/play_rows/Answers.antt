@@ -1,6 +1,6 @@
 -- The matches are told, or one wasn't played, or there was no memory.
 use Rattle.std.proofs.Common.{map}
-use Rattle.rbg_questions.specs.declared.refusal.Refusal.TheVariants.{Memory}
+use Rattle.rbg_questions.specs.declared.question_error.QuestionError.TheVariants.{Memory}
 use Rattle.rbg_questions.specs.Chance.{counted_by}
 use Rattle.rbg_base.proofs.Errors.{passed_on}
 use Rattle.rbg_c.proofs.ByChance.{unplayed_memory}

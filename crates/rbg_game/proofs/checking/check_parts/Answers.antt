@@ -1,7 +1,7 @@
 use Rattle.std.proofs.Common.{sym, subst}
 use Rattle.rbg_grammar.specs.Descriptions.{description_of_parts}
 use Rattle.rbg_rules.specs.Meaning.{AbstractGame, rules_of}
-use Rattle.rbg_game.proofs.Common.{Memory, game_error_of, IsGameOf, HasFault, memory}
+use Rattle.rbg_game.proofs.Common.{Memory, IsGameOf, HasFault, memory}
 use Rattle.rbg_base.proofs.Errors.{passed_on}
 use Rattle.rbg_game.proofs.Assembly.{board_unlawful, rules_unlawful, game_made}
 use Rattle.rbg_game.proofs.checking.check_parts.Goals as goal
@@ -17,7 +17,7 @@ pub returns-in_err-rules-clause-fault : goal.returns-in_err-rules-clause-fault
 returns-in_err-rules-clause-fault c =
     let d = description_of_parts c.args.parts.now in
     let error = c.in_err-rules.field-0.0 in
-    passed_on c.from_residual-in_err-rules.result (game_error_of error) (HasFault d) c.from_residual-in_err-rules.ensures.1
+    passed_on c.from_residual-in_err-rules.result error (HasFault d) c.from_residual-in_err-rules.ensures.1
     (rules_unlawful d c.in_ok-things.things c.in_ok-board.board c.requires c.in_ok-things.ensures.things c.in_ok-board.ensures.board error c.in_err-rules.ensures.fault)
 
 pub assemble-requires-clause-lawful : goal.assemble-requires-clause-lawful

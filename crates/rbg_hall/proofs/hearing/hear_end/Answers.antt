@@ -7,19 +7,19 @@ use Rattle.rbg_hall.proofs.hearing.hear_end.Goals as goal
 
 pub returns-in-Silent-clause-hears : goal.returns-in-Silent-clause-hears
 returns-in-Silent-clause-hears g c =
-    subst (λ one. TablesHear g.W.Log.told (λ table. heard_of_end table (line_of one) c.args.by.line c.args.by.at) c.args.tables.now c.args.tables.now c.args.out.now c.args.out.now) (sym c.in-Silent.is)
-    (end_of_silent c.args.tables.now c.args.by.line c.args.by.at c.in-Silent.field-0.rest c.args.out.now)
+    subst (λ one. TablesHear g.W.Log.told (λ table. heard_of_end table (line_of one) c.args.by.line c.args.by.at) c.args.tables.now c.args.tables.now c.args.out.now.queued c.args.out.now.queued) (sym c.in-Silent.is)
+    (end_of_silent c.args.tables.now c.args.by.line c.args.by.at c.in-Silent.field-0.rest c.args.out.now.queued)
 
 pub returns-in-Asks-clause-hears : goal.returns-in-Asks-clause-hears
 returns-in-Asks-clause-hears g c =
-    subst (λ one. OnOk c.hear.result (TablesHear g.W.Log.told (λ table. heard_of_end table (line_of one) c.args.by.line c.args.by.at) c.args.tables.now (set c.args.tables.now c.in-Asks.index c.hear.new.self) c.args.out.now c.hear.new.out)) (sym c.in-Asks.is)
+    subst (λ one. OnOk c.hear.result (TablesHear g.W.Log.told (λ table. heard_of_end table (line_of one) c.args.by.line c.args.by.at) c.args.tables.now (set c.args.tables.now c.in-Asks.index c.hear.new.self) c.args.out.now.queued c.hear.new.out.queued)) (sym c.in-Asks.is)
     (let within = subst (IsReady (length c.args.tables.now)) c.in-Asks.is c.requires in
-    on_ok_weaker c.hear.result (λ hears. end_of_asking c.args.tables.now c.args.by.line c.args.by.at c.in-Asks.index c.in-Asks.inbox.rest (get_or c.args.tables.now c.in-Asks.index c.index-tables-index.result) c.hear.new.self c.args.out.now c.hear.new.out within.1 (ap (get_or c.args.tables.now c.in-Asks.index) c.index-tables-index.is) hears) c.hear.ensures.hears)
+    on_ok_weaker c.hear.result (λ hears. end_of_asking c.args.tables.now c.args.by.line c.args.by.at c.in-Asks.index c.in-Asks.inbox.rest (get_or c.args.tables.now c.in-Asks.index c.index-tables-index.result) c.hear.new.self c.args.out.now.queued c.hear.new.out.queued within.1 (ap (get_or c.args.tables.now c.in-Asks.index) c.index-tables-index.is) hears) c.hear.ensures.hears)
 
 pub returns-clause-hears : goal.returns-clause-hears
 returns-clause-hears g c =
-    subst (λ one. TablesHear g.W.Log.told (λ table. heard_of_end table (line_of one) c.args.by.line c.args.by.at) c.args.tables.now c.args.tables.now c.args.out.now c.args.out.now) (sym c.in-Over.is)
-    (end_of_over c.args.tables.now c.args.by.line c.args.by.at c.args.out.now)
+    subst (λ one. TablesHear g.W.Log.told (λ table. heard_of_end table (line_of one) c.args.by.line c.args.by.at) c.args.tables.now c.args.tables.now c.args.out.now.queued c.args.out.now.queued) (sym c.in-Over.is)
+    (end_of_over c.args.tables.now c.args.by.line c.args.by.at c.args.out.now.queued)
 
 pub returns-in-Asks-clause-stops : goal.returns-in-Asks-clause-stops
 returns-in-Asks-clause-stops g c =

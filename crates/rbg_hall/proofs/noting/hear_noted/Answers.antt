@@ -21,10 +21,10 @@ returns-in_err-hear-clause-fails g c =
 
 pub returns-clause-fails : goal.returns-clause-fails
 returns-clause-fails g c =
-    begin_fails g.W.Log.told c.args.log.now c.note.new.log c.begin.new.log c.args.table.now c.hear.new.self (input_of c.args.input) c.is_waiting-waited.result c.config-config.result c.moment_of.result c.begin.result
-    c.is_waiting-waited.ensures c.config-config.ensures c.moment_of.ensures c.in_ok-note.ensures.ok c.begin.ensures.part c.begin.ensures.kept
+    begin_fails g.W.Log.told c.args.log.now c.note.new.log c.begin.new.log c.args.table.now c.hear.new.self (input_of c.args.input) c.is_waiting.result c.config.result c.moment_of.result c.begin.result
+    c.is_waiting.ensures c.config.ensures c.moment_of.ensures c.in_ok-note.ensures.ok c.begin.ensures.part c.begin.ensures.kept
 
 pub returns-clause-writes : goal.returns-clause-writes
 returns-clause-writes g c =
-    written_so g.W.Log.told c.args.log.now c.note.new.log c.begin.new.log c.args.table.now c.hear.new.self (input_of c.args.input) c.is_waiting-waited.result c.config-config.result c.moment_of.result c.begin.result
-    c.is_waiting-waited.ensures c.config-config.ensures c.moment_of.ensures c.moment_of.type_inv c.in_ok-note.ensures.ok c.begin.ensures.ok
+    written_so g.W.Log.told c.args.log.now c.note.new.log c.begin.new.log c.args.table.now c.hear.new.self (input_of c.args.input) c.is_waiting.result c.config.result c.moment_of.result c.begin.result
+    c.is_waiting.ensures c.config.ensures c.moment_of.ensures c.moment_of.type_inv c.in_ok-note.ensures.ok c.begin.ensures.ok

@@ -1,12 +1,11 @@
 -- The lines of the opening, or the refusal.
 use Rattle.std.proofs.Common.{◌≡◌}
-use Rattle.rbg_console.specs.declared.status.Status.TheVariants.{Success, Refused}
-use Rattle.rbg_game.specs.Loading.{IsMemory}
-use Rattle.rbg_referee.specs.Answers.{refused_line}
+use Rattle.std.proofs.lemmas.Result.{IfOk-weaker}
+use Rattle.rbg_console.specs.declared.status.Status.TheVariants.{Success}
 use Rattle.rbg_operations.specs.ListingAnswers.{IsMovesAnswer}
 use Rattle.rbg_operations.specs.ListingAnswers.IsMovesAnswer.{opened, refused}
 use Rattle.rbg_operations.specs.Openings.{IsOpeningText}
-use Rattle.rbg_referee.proofs.RunCallerLemmas.{both, all_three}
+use Rattle.rbg_referee.proofs.RunCallerLemmas.{both}
 use Rattle.rbg_operations.proofs.answer.answer_moves.Goals as goal
 
 pub returns-in-Ok : goal.returns-in-Ok
@@ -17,8 +16,5 @@ returns-in-Ok c =
 
 pub returns-in-Err : goal.returns-in-Err
 returns-in-Err c =
-    let text = c.args.text.now in
-    let error = c.in-Err.error in
-    all_three c.refuse.result (λ answer. ¬ IsMemory error) (λ answer. answer.text.items ≡ refused_line error) (λ answer. answer.status ≡ Refused)
-    (λ answer. IsMovesAnswer text answer.text.items answer.status) (λ answer known is was. refused error c.in-Err.ensures.refused known is was)
-    c.refuse.ensures.known c.refuse.ensures.text c.refuse.ensures.status
+    IfOk-weaker c.answer_unloaded.result _ _
+    (λ answer says. refused c.in-Err.error c.in-Err.ensures.refused says.0 says.1 says.2) c.answer_unloaded.ensures

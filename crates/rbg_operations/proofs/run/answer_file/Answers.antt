@@ -7,7 +7,7 @@ use Rattle.rbg_macro.specs.declared.text_error.TextError.TheVariants.{TooLong}
 use Rattle.rbg_operations.specs.ListingAnswers.{IsMovesAnswer}
 use Rattle.rbg_operations.specs.ListingAnswers.IsMovesAnswer.{refused}
 use Rattle.rbg_operations.specs.ListingRuns.IsFilesMoves.{of_file}
-use Rattle.rbg_referee.proofs.RunCallerLemmas.{all_three, long_refused}
+use Rattle.rbg_referee.proofs.RunCallerLemmas.{long_refused}
 use Rattle.rbg_operations.proofs.run.answer_file.Goals as goal
 
 pub returns-in-Whole : goal.returns-in-Whole
@@ -18,6 +18,5 @@ returns-in-Whole g c =
 pub returns-in-TooLong : goal.returns-in-TooLong
 returns-in-TooLong g c =
     let reading = subst (IsFileReading longest_text _) c.in-TooLong.is c.in_ok-text.ensures.read in
-    all_three c.refuse.result _ _ _ _
-    (λ answer not is was. of_file reading.0 reading.2 (refused (Text TooLong) (long_refused reading.0 reading.1) not is was))
-    c.refuse.ensures.known c.refuse.ensures.text c.refuse.ensures.status
+    IfOk-weaker c.answer_unloaded.result _ _
+    (λ answer says. of_file reading.0 reading.2 (refused (Text TooLong) (long_refused reading.0 reading.1) says.0 says.1 says.2)) c.answer_unloaded.ensures

@@ -2,5 +2,5 @@
 use Rattle.rbg_wire.proofs.Kept.{broken_off}
 use Rattle.rbg_questions.proofs.answer_writer.put_pieces.Goals as goal
 
-pub returns-in_err-put_number : goal.returns-in_err-put_number
-returns-in_err-put_number c = broken_off _ _ _ _ _ _ c.from_residual.result c.from_residual.ensures.1 c.loop-piece.invariant c.put_number.ensures.kept
+pub returns-in_err-put_spaced : goal.returns-in_err-put_spaced
+returns-in_err-put_spaced c = broken_off _ _ _ _ _ _ c.from_residual.result c.from_residual.ensures.1 c.loop-piece.invariant c.put_spaced.ensures.kept

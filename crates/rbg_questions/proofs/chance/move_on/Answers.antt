@@ -1,7 +1,7 @@
 -- A move is made, or there is none, or the question or the keeper's moves after it were given up.
 use Rattle.std.proofs.Common.{◌∙◌, false, sym, subst, arith}
 use Rattle.rbg_rules.specs.Meaning.{AbstractPlace, IsLegal, Legal}
-use Rattle.rbg_questions.specs.declared.refusal.Refusal.TheVariants.{Memory}
+use Rattle.rbg_questions.specs.declared.question_error.QuestionError.TheVariants.{Memory}
 use Rattle.rbg_questions.specs.Chance.{no_memory}
 use Rattle.rbg_questions.specs.internal.Moving.{MovesOn}
 use Rattle.rbg_questions.specs.internal.Moving.{rests}

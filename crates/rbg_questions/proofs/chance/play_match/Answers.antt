@@ -1,7 +1,7 @@
 -- The moves so far have led here, and the match ends, goes on, or isn't played on.
 use Rattle.std.proofs.Common.{Bool, arith, subst, sym}
 use Rattle.rbg_rules.specs.Meaning.{AbstractPlace, IsPlaceOf}
-use Rattle.rbg_questions.specs.declared.refusal.Refusal.TheVariants.{Memory}
+use Rattle.rbg_questions.specs.declared.question_error.QuestionError.TheVariants.{Memory}
 use Rattle.rbg_questions.specs.internal.Moving.{MovesOn}
 use Rattle.rbg_base.proofs.Errors.{passed_on}
 use Rattle.rbg_questions.proofs.PlayedMatches.{ends_over, ends_stopped, played_none, played_one, unplayed_memory}

@@ -1,6 +1,6 @@
 -- The matches so far are counted, and one more is, or it isn't played to its end.
 use Rattle.std.proofs.Common.{arith}
-use Rattle.rbg_questions.specs.declared.refusal.Refusal.TheVariants.{Memory}
+use Rattle.rbg_questions.specs.declared.question_error.QuestionError.TheVariants.{Memory}
 use Rattle.rbg_base.proofs.Errors.{passed_on}
 use Rattle.rbg_questions.proofs.PlayedMatches.{few_played, unplayed_memory}
 use Rattle.rbg_questions.proofs.Tallies.{small_tallies, tallied_more}

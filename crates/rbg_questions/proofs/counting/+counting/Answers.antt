@@ -35,7 +35,7 @@ count_after-loop-index-preserved t c =
     let sum : c.join.result ≡ Some c.in_ok-counts.counts = c.in_ok-counts.ensures.ok_part in
     let sequences : c.in_ok-counts.counts.sequences ≡ c.loop-index.counts.sequences + c.in_ok-after.after.sequences = subst (λ o. IfSome o (λ s. s.sequences ≡ c.loop-index.counts.sequences + c.in_ok-after.after.sequences)) sum c.join.ensures.sequences in
     let ended : c.in_ok-counts.counts.ended ≡ c.loop-index.counts.ended + c.in_ok-after.after.ended = subst (λ o. IfSome o (λ s. s.ended ≡ c.loop-index.counts.ended + c.in_ok-after.after.ended)) sum c.join.ensures.ended in
-    sums_more (AreCountedAfter c.args.game.now c.args.further c.args.extent c.args.place.now) firsts k pairs c.loop-index.counts.sequences c.loop-index.counts.ended c.in_ok-after.after.sequences c.in_ok-after.after.ended c.in_ok-counts.counts.sequences c.in_ok-counts.counts.ended
+    sums_more (AreCountedAfter c.args.game.now c.args.further.moves c.args.further.extent c.args.place.now) firsts k pairs c.loop-index.counts.sequences c.loop-index.counts.ended c.in_ok-after.after.sequences c.in_ok-after.after.ended c.in_ok-counts.counts.sequences c.in_ok-counts.counts.ended
     (slice_get_within firsts k pairs c.get-pairs.ensures.pairs) (sym (get_or_from_slice_get firsts k pairs pairs c.get-pairs.ensures.pairs)) c.loop-index.invariant
     (c.lead.new.to, c.in_ok-lead.ensures.to, c.in_ok-after.ensures.counted)
     sequences ended
@@ -43,7 +43,7 @@ count_after-loop-index-preserved t c =
 pub count_after-returns-clause-counted : goal.count_after-returns-clause-counted
 count_after-returns-clause-counted t c =
     let all : length c.args.firsts.now ≤ c.loop-index.index = omega (arith, c.loop-index-test.false, c.len-index-end.ensures.count) in
-    sums_end (AreCountedAfter c.args.game.now c.args.further c.args.extent c.args.place.now) c.args.firsts.now c.loop-index.index c.loop-index.counts.sequences c.loop-index.counts.ended all c.loop-index.invariant
+    sums_end (AreCountedAfter c.args.game.now c.args.further.moves c.args.further.extent c.args.place.now) c.args.firsts.now c.loop-index.index c.loop-index.counts.sequences c.loop-index.counts.ended all c.loop-index.invariant
 
 pub count_after-returns-in_err-after-clause-refused : goal.count_after-returns-in_err-after-clause-refused
 count_after-returns-in_err-after-clause-refused t c =
@@ -55,7 +55,7 @@ count_after-returns-in_err-counts-clause-refused t c =
     let firsts = c.args.firsts.now in
     let k = c.loop-index.index in
     let pairs = c.get-pairs.result.now in
-    let Has = AreCountedAfter c.args.game.now c.args.further c.args.extent c.args.place.now in
+    let Has = AreCountedAfter c.args.game.now c.args.further.moves c.args.further.extent c.args.place.now in
     let sequences = c.loop-index.counts.sequences + c.in_ok-after.after.sequences in
     let ended = c.loop-index.counts.ended + c.in_ok-after.after.ended in
     let told = no_sum _ c.join.result c.in_err-counts.field-0.0 c.in_err-counts.ensures.value in
@@ -65,7 +65,7 @@ count_after-returns-in_err-counts-clause-refused t c =
     (slice_get_within firsts k pairs c.get-pairs.ensures.pairs) (sym (get_or_from_slice_get firsts k pairs pairs c.get-pairs.ensures.pairs)) c.loop-index.invariant
     (c.lead.new.to, c.in_ok-lead.ensures.to, c.in_ok-after.ensures.counted) refl refl in
     passed_on c.from_residual-in_err-counts.result c.in_err-counts.field-0.0 _ c.from_residual-in_err-counts.ensures.1
-    (λ place settles. subst (λ e. IsNotCounted c.args.game.now (suc c.args.further) c.args.extent place e) (sym told.0)
+    (λ place settles. subst (λ e. IsNotCounted c.args.game.now (suc c.args.further.moves) c.args.further.extent place e) (sym told.0)
     (here tt (sum settles (All-take (IsLegal c.args.game.now c.args.place.now) (k + 1) firsts c.requires.legal) (different_take (λ (a b : List (ℕ × ℕ)). a ≢ b) (k + 1) firsts c.requires.different) sums above)))
 
 pub count_from-count_after-requires : goal.count_from-count_after-requires
@@ -105,9 +105,9 @@ count_after-returns-then-not-asks_ends-clause-counted t c =
     let game = c.args.game.now in
     let to = c.args.place.now in
     let firsts = c.args.firsts.now in
-    let extent : c.args.extent ≡ Moves = c.asks_ends.ensures (search rules) in
+    let extent : c.args.further.extent ≡ Moves = c.asks_ends.ensures (search rules) in
     let going : Sums (AreCountedAfter game 0 Moves to) firsts (length firsts) 0 = all_going game to firsts c.requires.legal in
-    let asked : Sums (AreCountedAfter game 0 c.args.extent to) firsts (length firsts) 0 = subst (λ e. Sums (AreCountedAfter game 0 e to) firsts (length firsts) 0) (sym extent) going in
-    let all : Sums (AreCountedAfter game c.args.further c.args.extent to) firsts (length firsts) 0 = subst (λ k. Sums (AreCountedAfter game k c.args.extent to) firsts (length firsts) 0) (sym c.if-further-eq0.true) asked in
-    let Has = AreCountedAfter game c.args.further c.args.extent to in
+    let asked : Sums (AreCountedAfter game 0 c.args.further.extent to) firsts (length firsts) 0 = subst (λ e. Sums (AreCountedAfter game 0 e to) firsts (length firsts) 0) (sym extent) going in
+    let all : Sums (AreCountedAfter game c.args.further.moves c.args.further.extent to) firsts (length firsts) 0 = subst (λ k. Sums (AreCountedAfter game k c.args.further.extent to) firsts (length firsts) 0) (sym c.if-further-eq0.true) asked in
+    let Has = AreCountedAfter game c.args.further.moves c.args.further.extent to in
     subst (λ n. Sums Has firsts n c.going.result.ended) (sym c.going.ensures.sequences) (subst (λ n. Sums Has firsts (length firsts) n) (sym c.going.ensures.ended) all)

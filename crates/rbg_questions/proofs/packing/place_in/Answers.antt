@@ -1,6 +1,6 @@
 -- No place of the game is packed so, or there was no memory.
 use Rattle.rbg_base.proofs.Errors.{passed_on}
-use Rattle.rbg_questions.specs.declared.refusal.Refusal.TheVariants.{Memory}
+use Rattle.rbg_questions.specs.declared.question_error.QuestionError.TheVariants.{Memory}
 use Rattle.rbg_questions.specs.internal.Places.{no_bytes}
 use Rattle.rbg_questions.proofs.Faults.{not_unpacked_in}
 use Rattle.rbg_questions.proofs.Packed.{none_there}

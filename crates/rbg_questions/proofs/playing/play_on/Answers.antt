@@ -1,5 +1,5 @@
 -- The matches are counted, or the keeper's first moves or a match isn't played to its end, or there was no memory.
-use Rattle.rbg_questions.specs.declared.refusal.Refusal.TheVariants.{Memory}
+use Rattle.rbg_questions.specs.declared.question_error.QuestionError.TheVariants.{Memory}
 use Rattle.rbg_questions.specs.internal.Refusing.{refusal_of_unsettled}
 use Rattle.rbg_base.proofs.Errors.{passed_on}
 use Rattle.rbg_questions.specs.Playing.{no_memory}

@@ -1,5 +1,5 @@
 -- The lines tell of the matches, or none were played, or there was no memory.
-use Rattle.rbg_questions.specs.declared.refusal.Refusal.TheVariants.{Memory}
+use Rattle.rbg_questions.specs.declared.question_error.QuestionError.TheVariants.{Memory}
 use Rattle.rbg_base.proofs.Errors.{passed_on}
 use Rattle.rbg_questions.specs.Playing.{no_memory}
 use Rattle.rbg_questions.proofs.PlayoutBeginning.{few_playouts, tells_so}

@@ -2,7 +2,7 @@
 use Rattle.std.proofs.Common.{subst, sym}
 use Rattle.rbg_base.proofs.Errors.{passed_on}
 use Rattle.rbg_rules.specs.Meaning.{AbstractPlace, IsPlaceOf}
-use Rattle.rbg_questions.specs.declared.refusal.Refusal.TheVariants.{Memory}
+use Rattle.rbg_questions.specs.declared.question_error.QuestionError.TheVariants.{Memory}
 use Rattle.rbg_questions.specs.Searching.{IsUnsampled, no_memory}
 use Rattle.rbg_questions.specs.internal.Searching.{IsMade}
 use Rattle.rbg_questions.proofs.Sampled.{untold_at, writes_sample}
@@ -17,12 +17,12 @@ returns-in_err-place-clause-unsampled c = passed_on c.from_residual.result Memor
 pub returns-in_err-made-clause-unsampled : goal.returns-in_err-made-clause-unsampled
 returns-in_err-made-clause-unsampled c =
     passed_on c.from_residual-in_err-made.result c.in_err-made.field-0.0 _ c.from_residual-in_err-made.ensures.1
-    (subst (λ (p : AbstractPlace). IsUnsampled c.args.game.now p c.args.most c.in_err-made.field-0.0) c.in_ok-place.ensures.copy c.in_err-made.ensures.unsampled)
+    (subst (λ (p : AbstractPlace). IsUnsampled c.args.game.now p c.args.draw.count c.in_err-made.field-0.0) c.in_ok-place.ensures.copy c.in_err-made.ensures.unsampled)
 
 pub returns-in_err-standing-clause-unsampled : goal.returns-in_err-standing-clause-unsampled
 returns-in_err-standing-clause-unsampled c =
     passed_on c.from_residual-in_err-standing.result c.in_err-standing.field-0.0 _ c.from_residual-in_err-standing.ensures.1
-    (subst (λ (p : AbstractPlace). IsUnsampled c.args.game.now p c.args.most c.in_err-standing.field-0.0) c.in_ok-place.ensures.copy (untold_at _ _ _ _ _ _ _ c.in_ok-made.ensures.made c.in_err-standing.ensures.untold))
+    (subst (λ (p : AbstractPlace). IsUnsampled c.args.game.now p c.args.draw.count c.in_err-standing.field-0.0) c.in_ok-place.ensures.copy (untold_at _ _ _ _ _ _ _ c.in_ok-made.ensures.made c.in_err-standing.ensures.untold))
 
 pub returns-in_err-write_sampled-clause-unsampled : goal.returns-in_err-write_sampled-clause-unsampled
 returns-in_err-write_sampled-clause-unsampled c =
@@ -30,4 +30,4 @@ returns-in_err-write_sampled-clause-unsampled c =
 
 pub returns-clause-sampled : goal.returns-clause-sampled
 returns-clause-sampled c =
-    writes_sample _ _ _ _ _ _ _ _ _ _ (subst (λ (p : AbstractPlace). IsMade c.args.game.now p c.args.most c.in_ok-made.made c.make_moves.new.place c.make_moves.new.lines.items) c.in_ok-place.ensures.copy c.in_ok-made.ensures.made) c.in_ok-standing.ensures.stands c.as_slice.ensures.value c.in_ok-write_sampled.ensures.ok
+    writes_sample _ _ _ _ _ _ _ _ _ _ (subst (λ (p : AbstractPlace). IsMade c.args.game.now p c.args.draw.count c.in_ok-made.made c.make_moves.new.place c.make_moves.new.lines.items) c.in_ok-place.ensures.copy c.in_ok-made.ensures.made) c.in_ok-standing.ensures.stands c.as_slice.ensures.value c.in_ok-write_sampled.ensures.ok

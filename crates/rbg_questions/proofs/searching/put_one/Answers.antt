@@ -1,6 +1,6 @@
 -- The line is that of the matches after the move, or they aren't played.
 use Rattle.rbg_base.proofs.Errors.{passed_on}
-use Rattle.rbg_questions.specs.declared.refusal.Refusal.TheVariants.{Memory}
+use Rattle.rbg_questions.specs.declared.question_error.QuestionError.TheVariants.{Memory}
 use Rattle.rbg_questions.specs.Chance.{no_memory}
 use Rattle.rbg_questions.specs.Searching.{unmoved, unplayed}
 use Rattle.rbg_questions.proofs.Searched.{few_after, kept_same, writes_one}

@@ -2,7 +2,7 @@
 use Rattle.std.proofs.Common.{◌∙◌}
 use Rattle.rbg_base.proofs.Errors.{passed_on}
 use Rattle.rbg_wire.proofs.Kept.{kept_after}
-use Rattle.rbg_questions.specs.declared.refusal.Refusal.TheVariants.{Memory}
+use Rattle.rbg_questions.specs.declared.question_error.QuestionError.TheVariants.{Memory}
 use Rattle.rbg_questions.specs.Chance.{no_memory}
 use Rattle.rbg_questions.specs.Searching.{unmoved}
 use Rattle.rbg_questions.proofs.Searched.{kept_same, lent_legal, writes_search}

@@ -1,6 +1,6 @@
 -- A legal move was found, or there is none, or the question was given up.
 use Rattle.std.proofs.Common.{ap, ◌∙◌}
-use Rattle.rbg_questions.specs.declared.refusal.Refusal.TheVariants.{Memory}
+use Rattle.rbg_questions.specs.declared.question_error.QuestionError.TheVariants.{Memory}
 use Rattle.rbg_questions.specs.internal.Places.{memory}
 use Rattle.rbg_questions.specs.internal.Refusing.{refusal_of_over}
 use Rattle.rbg_questions.proofs.Faults.{find_untold, stands_on, stands_over}

@@ -1,6 +1,6 @@
 -- There is no such move, or the keeper's moves behind it don't end, or there was no memory, or the state goes on.
 use Rattle.std.proofs.Common.{arith}
-use Rattle.rbg_questions.specs.declared.refusal.Refusal.TheVariants.{Memory}
+use Rattle.rbg_questions.specs.declared.question_error.QuestionError.TheVariants.{Memory}
 use Rattle.rbg_questions.specs.internal.Places.{no_memory}
 use Rattle.rbg_base.proofs.Errors.{passed_on}
 use Rattle.rbg_c.specs.Stepping.{not_asked, too_few, unmade}

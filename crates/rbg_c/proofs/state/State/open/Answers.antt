@@ -8,7 +8,7 @@ use Rattle.rbg_c.proofs.state.State.open.Goals as goal
 
 pub invariant_of-result : goal.invariant_of-result
 invariant_of-result c =
-    first_state _ _ _ _ _ _ c.in_ok-game-2.ensures c.in_ok-origin.ensures c.in_ok-start.ensures.start c.in_ok-start.ensures.in_game c.new-2.ensures.items c.in_ok-place.ensures.place c.in_ok-place.ensures.in_game
+    first_state _ _ _ _ _ _ c.in_ok-game-2.ensures c.in_ok-origin.ensures c.in_ok-start.ensures.start c.in_ok-start.ensures.in_game c.new-2.ensures.items c.in_ok-place.ensures.place c.in_ok-place.ensures.reached.here
 
 pub returns-clause-game : goal.returns-clause-game
 returns-clause-game c =

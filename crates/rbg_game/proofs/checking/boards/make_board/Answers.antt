@@ -1,7 +1,7 @@
 use Rattle.rbg_base.proofs.Common.{map, ap, arith, length-map, IfOk-weaker, IfErr-weaker}
 use Rattle.rbg_board.proofs.Common.{rows_of, RectangleEdge, HasFirstCell, IsEven, RectangleRefusal, HexagonEdge, HasCells, GrowsThenShrinks, HexagonRefusal}
 use Rattle.rbg_grammar.proofs.Common.{name_of, names_of, rectangle, hexagon}
-use Rattle.rbg_game.proofs.Common.{game_error_of, HasBoardFault, no_rectangle, no_hexagon}
+use Rattle.rbg_game.proofs.Common.{HasBoardFault, no_rectangle, no_hexagon}
 use Rattle.rbg_base.proofs.Errors.{passed_on}
 use Rattle.rbg_game.proofs.NamedRows.{cells_fault, rows_made, rows_refused}
 use Rattle.rbg_game.proofs.checking.boards.make_board.Goals as goal
@@ -10,7 +10,7 @@ pub returns-in_err-parts-in-Rectangle-clause-fault : goal.returns-in_err-parts-i
 returns-in_err-parts-in-Rectangle-clause-fault c =
     let spelt = rectangle (map name_of c.in-Rectangle.directions.names) (map names_of c.deref.result.now) in
     let error = c.in_err-parts-in-Rectangle.field-0.0 in
-    rw (c.in-Rectangle.is, ← c.deref.ensures.value) (passed_on c.from_residual.result (game_error_of error) (HasBoardFault c.args.pieces.now spelt) c.from_residual.ensures.1 (cells_fault c.args.pieces.now spelt error c.in_err-parts-in-Rectangle.ensures.fault))
+    rw (c.in-Rectangle.is, ← c.deref.ensures.value) (passed_on c.from_residual.result error (HasBoardFault c.args.pieces.now spelt) c.from_residual.ensures.1 (cells_fault c.args.pieces.now spelt error c.in_err-parts-in-Rectangle.ensures.fault))
 
 pub returns-in_ok-parts-in-Rectangle-clause-board : goal.returns-in_ok-parts-in-Rectangle-clause-board
 returns-in_ok-parts-in-Rectangle-clause-board c =
@@ -26,7 +26,7 @@ pub returns-in_err-parts-in-Hexagon-clause-fault : goal.returns-in_err-parts-in-
 returns-in_err-parts-in-Hexagon-clause-fault c =
     let spelt = hexagon (map name_of c.in-Hexagon.directions.names) (map names_of c.deref-in-Hexagon.result.now) in
     let error = c.in_err-parts-in-Hexagon.field-0.0 in
-    rw (c.in-Hexagon.is, ← c.deref-in-Hexagon.ensures.value) (passed_on c.from_residual-in_err-parts-in-Hexagon.result (game_error_of error) (HasBoardFault c.args.pieces.now spelt) c.from_residual-in_err-parts-in-Hexagon.ensures.1 (cells_fault c.args.pieces.now spelt error c.in_err-parts-in-Hexagon.ensures.fault))
+    rw (c.in-Hexagon.is, ← c.deref-in-Hexagon.ensures.value) (passed_on c.from_residual-in_err-parts-in-Hexagon.result error (HasBoardFault c.args.pieces.now spelt) c.from_residual-in_err-parts-in-Hexagon.ensures.1 (cells_fault c.args.pieces.now spelt error c.in_err-parts-in-Hexagon.ensures.fault))
 
 pub returns-in_ok-parts-in-Hexagon-clause-board : goal.returns-in_ok-parts-in-Hexagon-clause-board
 returns-in_ok-parts-in-Hexagon-clause-board c =

@@ -1,7 +1,7 @@
 use Rattle.rbg_base.proofs.Common.{List, flat_map, map, subst, AllZip, map-append}
 use Rattle.rbg_board.specs.Cells.{rows_of}
 use Rattle.rbg_grammar.proofs.Common.{SpeltName, name_of, names_of}
-use Rattle.rbg_game.specs.declared.numbering_error.NumberingError.TheVariants.{Memory}
+use Rattle.rbg_game.specs.declared.game_error.GameError.TheVariants.{Memory}
 use Rattle.rbg_game.proofs.NumberingCommon.{IsNumberOf, HasLookUpFault, no_memory}
 use Rattle.rbg_game.proofs.Lists.{AllZip-step, Contains-flat_map, Contains-map_read}
 use Rattle.rbg_game.proofs.LookUps.{look_up_within}

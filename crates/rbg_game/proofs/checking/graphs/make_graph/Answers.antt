@@ -5,7 +5,7 @@ use Rattle.rbg_board.specs.declared.error.BoardError.{BoardError}
 use Rattle.rbg_board.specs.declared.graphs.Cell.{Cell}
 use Rattle.rbg_grammar.proofs.Common.{SpeltVertex, graph, vertex_of}
 use Rattle.rbg_rules.specs.Meaning.{AreDifferentNames}
-use Rattle.rbg_game.proofs.Common.{game_error_of, GameError, TooMany, Directions, MakesBoard, vertex_names, board_pieces, HasBoardFault, many_directions, no_graph, many_vertices, board_memory, IsCell}
+use Rattle.rbg_game.proofs.Common.{GameError, TooMany, Directions, MakesBoard, vertex_names, board_pieces, HasBoardFault, many_directions, no_graph, many_vertices, board_memory, IsCell}
 use Rattle.rbg_game.specs.declared.checking.boards.NamedBoard.{NamedBoard}
 use Rattle.rbg_game.specs.NameNumbers.{IsNumberOf}
 use Rattle.rbg_base.proofs.Errors.{passed_on}
@@ -16,12 +16,12 @@ use Rattle.rbg_game.proofs.checking.graphs.make_graph.Goals as goal
 pub returns-in_err-first-clause-fault : goal.returns-in_err-first-clause-fault
 returns-in_err-first-clause-fault c =
     let P : GameError → Type 0 = λ e. HasBoardFault c.args.pieces.now (graph (map vertex_of c.args.vertices.now)) e in
-    passed_on c.from_residual.result (game_error_of c.in_err-first.field-0.0) P c.from_residual.ensures.1 (cells_fault c.args.pieces.now (graph (map vertex_of c.args.vertices.now)) c.in_err-first.field-0.0 c.in_err-first.ensures.fault)
+    passed_on c.from_residual.result c.in_err-first.field-0.0 P c.from_residual.ensures.1 (cells_fault c.args.pieces.now (graph (map vertex_of c.args.vertices.now)) c.in_err-first.field-0.0 c.in_err-first.ensures.fault)
 
 pub returns-in_err-directions-clause-fault : goal.returns-in_err-directions-clause-fault
 returns-in_err-directions-clause-fault c =
     let P : GameError → Type 0 = λ e. HasBoardFault c.args.pieces.now (graph (map vertex_of c.args.vertices.now)) e in
-    passed_on c.from_residual-in_err-directions.result (game_error_of c.in_err-directions.field-0.0) P c.from_residual-in_err-directions.ensures.1 (subst (λ e. P (game_error_of e)) (sym c.in_err-directions.ensures.memory) board_memory)
+    passed_on c.from_residual-in_err-directions.result c.in_err-directions.field-0.0 P c.from_residual-in_err-directions.ensures.1 (subst (λ e. P e) (sym c.in_err-directions.ensures.memory) board_memory)
 
 pub returns-in_err-refuse_many-clause-fault : goal.returns-in_err-refuse_many-clause-fault
 returns-in_err-refuse_many-clause-fault c =
@@ -43,7 +43,7 @@ number_cells-requires-clause-pieces c =
 pub returns-in_err-cells-clause-fault : goal.returns-in_err-cells-clause-fault
 returns-in_err-cells-clause-fault c =
     let P : GameError → Type 0 = λ e. HasBoardFault c.args.pieces.now (graph (map vertex_of c.args.vertices.now)) e in
-    passed_on c.from_residual-in_err-cells.result (game_error_of c.in_err-cells.field-0.0) P c.from_residual-in_err-cells.ensures.1 (subst (λ e. P (game_error_of e)) (sym c.in_err-cells.ensures.memory) board_memory)
+    passed_on c.from_residual-in_err-cells.result c.in_err-cells.field-0.0 P c.from_residual-in_err-cells.ensures.1 (subst (λ e. P e) (sym c.in_err-cells.ensures.memory) board_memory)
 
 -- the vertices have different names, and the cells are numbered by these
 cells_numbered : (pieces directions names : List (List ℕ)) (vertices : List SpeltVertex) (written : List Written) (first given : List ℕ) → AreDifferentNames names → names ≡ vertex_names vertices → given ≡ first

@@ -1,7 +1,7 @@
 use Rattle.rbg_base.proofs.Common.{◌++◌, ◌∷◌, [], List, map, take, subst, sym, AllZip}
 use Rattle.rbg_base.proofs.CallerLemmas.{AllZip-push_one, Contains-map}
 use Rattle.rbg_grammar.proofs.Common.{SpeltName, SpeltVertex, graph, name_of, vertex_of}
-use Rattle.rbg_game.specs.declared.numbering_error.NumberingError.TheVariants.{Memory}
+use Rattle.rbg_game.specs.declared.game_error.GameError.TheVariants.{Memory}
 use Rattle.rbg_game.proofs.NumberingCommon.{IsNumberOf, HasLookUpFault, no_memory}
 use Rattle.rbg_game.proofs.Lists.{Contains-map_read}
 use Rattle.rbg_game.proofs.LookUps.{look_up_one}

@@ -1,13 +1,13 @@
 use Rattle.std.proofs.Common.{[], ◌∷◌, refl, subst, sym, arith}
 use Rattle.rbg_grammar.specs.Views.{bounded_of}
-use Rattle.rbg_game.proofs.Common.{game_error_of, GameError, Memory, HasHolderFault, by_name, by_bound}
+use Rattle.rbg_game.proofs.Common.{GameError, Memory, HasHolderFault, by_name, by_bound}
 use Rattle.rbg_game.specs.NameTables.{no_memory}
 use Rattle.rbg_base.proofs.Errors.{passed_on}
 use Rattle.rbg_game.proofs.checking.names.add_holder.Goals as goal
 
 pub returns-in_err-insert-clause-fault : goal.returns-in_err-insert-clause-fault
 returns-in_err-insert-clause-fault c =
-    passed_on c.from_residual.result (game_error_of c.in_err-insert.field-0.0) (HasHolderFault c.args.table.now (bounded_of c.args.holder.now ∷ [])) c.from_residual.ensures.1
+    passed_on c.from_residual.result c.in_err-insert.field-0.0 (HasHolderFault c.args.table.now (bounded_of c.args.holder.now ∷ [])) c.from_residual.ensures.1
     (by_name c.in_err-insert.ensures.fault)
 
 pub returns-in_err-read_bound-clause-fault : goal.returns-in_err-read_bound-clause-fault

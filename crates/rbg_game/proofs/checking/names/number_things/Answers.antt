@@ -2,7 +2,7 @@ use Rattle.rbg_base.proofs.Common.{◌≡◌, List, ℕ, [], ◌++◌, map, leng
 use Rattle.rbg_grammar.proofs.Common.{description_of_parts, name_of, bounded_of, SpeltBounded, SpeltName, SpeltDescription}
 use Rattle.rbg_grammar.specs.declared.names.Name.{Name}
 use Rattle.rbg_grammar.specs.declared.description.Bounded.{Bounded}
-use Rattle.rbg_game.proofs.Common.{TooMany, Players, Pieces, Variables, game_error_of, holder_names, holders_of, HasHolderFault, AddsBounds, HasFault, many_players, many_pieces, many_variables}
+use Rattle.rbg_game.proofs.Common.{TooMany, Players, Pieces, Variables, holder_names, holders_of, HasHolderFault, AddsBounds, HasFault, many_players, many_pieces, many_variables}
 use Rattle.rbg_game.proofs.NumberingCommon.{texts_of, HasNameFault}
 use Rattle.rbg_base.proofs.Errors.{passed_on}
 use Rattle.rbg_game.proofs.NameFaults.{AddsBounds-append, players_fault, variables_fault, pieces_fault}
@@ -40,7 +40,7 @@ returns-in_err-add_names-clause-fault c =
     let d = description_of_parts c.args.description.now in
     let error = c.in_err-add_names.field-0.0 in
     let fault = given_as (λ earlier names. HasNameFault earlier names error) _ _ _ _ c.new-pieces.ensures (ap (map name_of) c.deref-3.ensures.value) c.in_err-add_names.ensures.fault in
-    passed_on c.from_residual-in_err-add_names.result (game_error_of error) (HasFault d) c.from_residual-in_err-add_names.ensures.1 (pieces_fault d error fault)
+    passed_on c.from_residual-in_err-add_names.result error (HasFault d) c.from_residual-in_err-add_names.ensures.1 (pieces_fault d error fault)
 
 pub returns-in_err-add_players-clause-fault : goal.returns-in_err-add_players-clause-fault
 returns-in_err-add_players-clause-fault c =

@@ -10,8 +10,8 @@ pub returns-in-Ok : goal.returns-in-Ok
 returns-in-Ok g c =
     let tells = g.F.Files.knows_new in
     let after = g.F.Files.told c.write_recorded.new.files c.args.target.now in
-    let description = c.args.description.now in
-    let script = c.args.script.now in
+    let description = c.args.texts.description.now in
+    let script = c.args.texts.script.now in
     let lines = c.in-Ok.recorded.lines.items in
     let told = c.in-Ok.recorded.told.items in
     IfOk-weaker c.write_recorded.result (λ answer. WritesRecord tells after lines told answer.text.items answer.status)
@@ -21,8 +21,8 @@ returns-in-Ok g c =
 pub returns-in-Err : goal.returns-in-Err
 returns-in-Err g c =
     let tells = g.F.Files.knows_new in
-    let description = c.args.description.now in
-    let script = c.args.script.now in
+    let description = c.args.texts.description.now in
+    let script = c.args.texts.script.now in
     let error = c.in-Err.error in
     IfOk-weaker c.answer_fault.result (λ answer. AnswersFault error answer.text.items answer.status)
     (λ answer. RecordsMatch tells _ description script answer.text.items answer.status)

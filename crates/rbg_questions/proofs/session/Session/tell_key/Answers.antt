@@ -5,7 +5,7 @@ use Rattle.rbg_questions.proofs.session.Session.tell_key.Goals as goal
 
 pub returns : goal.returns
 returns c = record {
-  answers = rw (← c.self.view_is) (tells_the_key _ _ _ _ c.key_at.ensures c.in_ok-write_key.ensures.ok);
+  answers = rw (← c.self.view_is) (tells_the_key _ _ _ _ c.key_of.ensures c.in_ok-write_key.ensures.ok);
   refused = search rules;
   out = search rules;
 }

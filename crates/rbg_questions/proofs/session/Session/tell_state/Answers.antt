@@ -12,4 +12,4 @@ returns-in_err-count-clause-refused c =
 pub returns-clause-answers : goal.returns-clause-answers
 returns-clause-answers c =
     rw (← c.self.view_is)
-    (tells_all _ _ _ _ _ _ _ _ c.in_ok-count.ensures.count c.standing_of-standing.ensures c.key_at-key.ensures c.pieces_at.ensures (c.as_slice-held.ensures.value ∙ c.in_ok-values.ensures) c.in_ok-write_state.ensures.ok)
+    (tells_all _ _ _ _ _ _ _ _ c.in_ok-count.ensures.count c.standing_of-standing.ensures c.key_of-key.ensures c.pieces_at.ensures (c.as_slice-held.ensures.value ∙ c.in_ok-values.ensures) c.in_ok-write_state.ensures.ok)

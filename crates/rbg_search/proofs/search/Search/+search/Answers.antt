@@ -112,53 +112,77 @@ flat_part-advance_by_sets-requires-clause-fits g t c =
 pub flat_part-advance_by_sets-requires-clause-sets : goal.flat_part-advance_by_sets-requires-clause-sets
 flat_part-advance_by_sets-requires-clause-sets g t c = sets_now c.loop-vertex.invariant
 
+pub flat_part-take_dead-requires-clause-paths : goal.flat_part-take_dead-requires-clause-paths
+flat_part-take_dead-requires-clause-paths g t c = onward_rules (λ x. ArePathsOf x c.args.paths.now) c.args.self.now c.loop-vertex.self c.loop-vertex.invariant.finds.kept c.requires.paths
+
+pub flat_part-take_dead-requires-clause-fits : goal.flat_part-take_dead-requires-clause-fits
+flat_part-take_dead-requires-clause-fits g t c =
+    onward IsStateOf c.args.self.now c.loop-vertex.self c.args.state.now c.loop-vertex.state c.loop-vertex.invariant.finds.kept c.loop-vertex.invariant.finds.given_back c.requires.fits
+
+pub flat_part-take_dead-requires-clause-sets : goal.flat_part-take_dead-requires-clause-sets
+flat_part-take_dead-requires-clause-sets g t c = c.advance_by_sets.ensures.advances.sets
+
+pub flat_part-take_dead-requires-clause-next : goal.flat_part-take_dead-requires-clause-next
+flat_part-take_dead-requires-clause-next g t c = search rules
+
 pub flat_part-ask-requires : goal.flat_part-ask-requires
 flat_part-ask-requires g t c κs within =
-    let is = sets_on c.loop-vertex.invariant c.advance_by_sets.new.flat.value c.advance_by_sets.ensures.advances in
-    let next : IsToBeAsked c.loop-vertex.self.game c.advance_by_sets.new.flat.value c.in-Some.field-0.vertex c.in-Some.field-0.position = search rules in
-    (search rules, (within, (onward_rules (λ x. ArePathsOf x c.args.paths.now) c.args.self.now c.loop-vertex.self c.loop-vertex.invariant.finds.kept c.requires.paths, asks_within is.finds c.requires.fits c.args.nested c.requires.nested _ _ (reached_here is _ _ next) next.vertex next.pattern)))
+    let is = c.take_dead.ensures.finds c.args.self.now c.args.state.now (start_of c.args.origin) (sets_on c.loop-vertex.invariant c.advance_by_sets.new.flat.value c.advance_by_sets.ensures.advances) in
+    let next : IsToBeAsked c.take_dead.new.self.game c.take_dead.new.flat.value c.in-Some.field-0.vertex c.in-Some.field-0.position = c.take_dead.ensures.next c.if-not-take_dead.true in
+    (search rules, (within, (onward_rules (λ x. ArePathsOf x c.args.paths.now) c.args.self.now c.take_dead.new.self is.finds.kept c.requires.paths, asks_within is.finds c.requires.fits c.args.nested c.requires.nested _ _ (reached_here is _ _ next) next.vertex next.pattern)))
 
 pub flat_part-take_by_sets-requires-clause-paths : goal.flat_part-take_by_sets-requires-clause-paths
 flat_part-take_by_sets-requires-clause-paths g t c =
-    onward_rules (λ x. ArePathsOf x c.args.paths.now) c.loop-vertex.self c.ask.new.self c.ask.ensures.asked.kept (onward_rules (λ x. ArePathsOf x c.args.paths.now) c.args.self.now c.loop-vertex.self c.loop-vertex.invariant.finds.kept c.requires.paths)
+    let is = c.take_dead.ensures.finds c.args.self.now c.args.state.now (start_of c.args.origin) (sets_on c.loop-vertex.invariant c.advance_by_sets.new.flat.value c.advance_by_sets.ensures.advances) in
+    onward_rules (λ x. ArePathsOf x c.args.paths.now) c.take_dead.new.self c.ask.new.self c.ask.ensures.asked.kept (onward_rules (λ x. ArePathsOf x c.args.paths.now) c.args.self.now c.take_dead.new.self is.finds.kept c.requires.paths)
 
 pub flat_part-take_by_sets-requires-clause-fits : goal.flat_part-take_by_sets-requires-clause-fits
 flat_part-take_by_sets-requires-clause-fits g t c =
-    onward IsStateOf c.loop-vertex.self c.ask.new.self c.loop-vertex.state c.ask.new.state c.ask.ensures.asked.kept c.ask.ensures.asked.given_back
-    (onward IsStateOf c.args.self.now c.loop-vertex.self c.args.state.now c.loop-vertex.state c.loop-vertex.invariant.finds.kept c.loop-vertex.invariant.finds.given_back c.requires.fits)
+    let is = c.take_dead.ensures.finds c.args.self.now c.args.state.now (start_of c.args.origin) (sets_on c.loop-vertex.invariant c.advance_by_sets.new.flat.value c.advance_by_sets.ensures.advances) in
+    onward IsStateOf c.take_dead.new.self c.ask.new.self c.loop-vertex.state c.ask.new.state c.ask.ensures.asked.kept c.ask.ensures.asked.given_back
+    (onward IsStateOf c.args.self.now c.take_dead.new.self c.args.state.now c.loop-vertex.state is.finds.kept is.finds.given_back c.requires.fits)
 
 pub flat_part-take_by_sets-requires-clause-sets : goal.flat_part-take_by_sets-requires-clause-sets
 flat_part-take_by_sets-requires-clause-sets g t c =
-    onward_rules (λ x. HasSetsFor x c.advance_by_sets.new.flat.value) c.loop-vertex.self c.ask.new.self c.ask.ensures.asked.kept c.advance_by_sets.ensures.advances.sets
+    let is = c.take_dead.ensures.finds c.args.self.now c.args.state.now (start_of c.args.origin) (sets_on c.loop-vertex.invariant c.advance_by_sets.new.flat.value c.advance_by_sets.ensures.advances) in
+    onward_rules (λ x. HasSetsFor x c.take_dead.new.flat.value) c.take_dead.new.self c.ask.new.self c.ask.ensures.asked.kept (sets_now is)
 
 pub flat_part-take_by_sets-requires-clause-next : goal.flat_part-take_by_sets-requires-clause-next
 flat_part-take_by_sets-requires-clause-next g t c =
-    let next : IsToBeAsked c.loop-vertex.self.game c.advance_by_sets.new.flat.value c.in-Some.field-0.vertex c.in-Some.field-0.position = search rules in
-    onward_rules (λ x. IsToBeAsked x c.advance_by_sets.new.flat.value c.in-Some.field-0.vertex c.in-Some.field-0.position) c.loop-vertex.self c.ask.new.self c.ask.ensures.asked.kept next
+    onward_rules (λ x. IsToBeAsked x c.take_dead.new.flat.value c.in-Some.field-0.vertex c.in-Some.field-0.position) c.take_dead.new.self c.ask.new.self c.ask.ensures.asked.kept (c.take_dead.ensures.next c.if-not-take_dead.true)
 
-pub flat_part-loop-vertex-preserved : goal.flat_part-loop-vertex-preserved
-flat_part-loop-vertex-preserved g t c =
-    let is = sets_on c.loop-vertex.invariant c.advance_by_sets.new.flat.value c.advance_by_sets.ensures.advances in
-    let next : IsToBeAsked c.loop-vertex.self.game c.advance_by_sets.new.flat.value c.in-Some.field-0.vertex c.in-Some.field-0.position = search rules in
+pub flat_part-loop-vertex-preserved-then-not-take_dead : goal.flat_part-loop-vertex-preserved-then-not-take_dead
+flat_part-loop-vertex-preserved-then-not-take_dead g t c =
+    let is = c.take_dead.ensures.finds c.args.self.now c.args.state.now (start_of c.args.origin) (sets_on c.loop-vertex.invariant c.advance_by_sets.new.flat.value c.advance_by_sets.ensures.advances) in
+    let next : IsToBeAsked c.take_dead.new.self.game c.take_dead.new.flat.value c.in-Some.field-0.vertex c.in-Some.field-0.position = c.take_dead.ensures.next c.if-not-take_dead.true in
     sets_more is _ _ next c.ask.ensures.asked c.take_by_sets.new.flat.value c.in-Ok.answer c.in-Ok.answer c.in-Ok.is c.in-Ok.ensures.valid c.take_by_sets.ensures.takes c.in-Ok.ensures.forced
 
+pub flat_part-loop-vertex-preserved : goal.flat_part-loop-vertex-preserved
+flat_part-loop-vertex-preserved g t c = c.take_dead.ensures.finds c.args.self.now c.args.state.now (start_of c.args.origin) (sets_on c.loop-vertex.invariant c.advance_by_sets.new.flat.value c.advance_by_sets.ensures.advances)
+
+pub flat_part-loop-vertex-smaller-then-not-take_dead : goal.flat_part-loop-vertex-smaller-then-not-take_dead
+flat_part-loop-vertex-smaller-then-not-take_dead g t c = omega (arith, c.advance_by_sets.ensures.advances.lighter, c.take_dead.ensures.lighter, c.take_by_sets.ensures.takes.lighter)
+
 pub flat_part-loop-vertex-smaller : goal.flat_part-loop-vertex-smaller
-flat_part-loop-vertex-smaller g t c = omega (arith, c.advance_by_sets.ensures.advances.lighter, c.take_by_sets.ensures.takes.lighter)
+flat_part-loop-vertex-smaller g t c =
+    let less = c.take_dead.ensures.less c.if-not-take_dead.false in
+    omega (arith, c.advance_by_sets.ensures.advances.lighter, less)
 
 pub flat_part-lose_sets-requires-clause-sets : goal.flat_part-lose_sets-requires-clause-sets
 flat_part-lose_sets-requires-clause-sets g t c =
-    onward_rules (λ x. HasSetsFor x c.advance_by_sets.new.flat.value) c.loop-vertex.self c.ask.new.self c.ask.ensures.asked.kept c.advance_by_sets.ensures.advances.sets
+    let is = c.take_dead.ensures.finds c.args.self.now c.args.state.now (start_of c.args.origin) (sets_on c.loop-vertex.invariant c.advance_by_sets.new.flat.value c.advance_by_sets.ensures.advances) in
+    onward_rules (λ x. HasSetsFor x c.take_dead.new.flat.value) c.take_dead.new.self c.ask.new.self c.ask.ensures.asked.kept (sets_now is)
 
 pub flat_part-lose_sets-requires-clause-one : goal.flat_part-lose_sets-requires-clause-one
 flat_part-lose_sets-requires-clause-one g t c =
-    let is = sets_on c.loop-vertex.invariant c.advance_by_sets.new.flat.value c.advance_by_sets.ensures.advances in
-    let next : IsToBeAsked c.loop-vertex.self.game c.advance_by_sets.new.flat.value c.in-Some.field-0.vertex c.in-Some.field-0.position = search rules in
+    let is = c.take_dead.ensures.finds c.args.self.now c.args.state.now (start_of c.args.origin) (sets_on c.loop-vertex.invariant c.advance_by_sets.new.flat.value c.advance_by_sets.ensures.advances) in
+    let next : IsToBeAsked c.take_dead.new.self.game c.take_dead.new.flat.value c.in-Some.field-0.vertex c.in-Some.field-0.position = c.take_dead.ensures.next c.if-not-take_dead.true in
     sets_left is _ _ next c.ask.ensures.asked
 
 pub flat_part-returns-in-Err-clause-asked : goal.flat_part-returns-in-Err-clause-asked
 flat_part-returns-in-Err-clause-asked g t c =
-    let is = sets_on c.loop-vertex.invariant c.advance_by_sets.new.flat.value c.advance_by_sets.ensures.advances in
-    let next : IsToBeAsked c.loop-vertex.self.game c.advance_by_sets.new.flat.value c.in-Some.field-0.vertex c.in-Some.field-0.position = search rules in
+    let is = c.take_dead.ensures.finds c.args.self.now c.args.state.now (start_of c.args.origin) (sets_on c.loop-vertex.invariant c.advance_by_sets.new.flat.value c.advance_by_sets.ensures.advances) in
+    let next : IsToBeAsked c.take_dead.new.self.game c.take_dead.new.flat.value c.in-Some.field-0.vertex c.in-Some.field-0.position = c.take_dead.ensures.next c.if-not-take_dead.true in
     sets_lost is _ _ next c.ask.ensures.asked _ c.in-Err.over c.in-Err.is c.lose_sets.ensures.over c.lose_sets.new.self c.lose_sets.ensures.kept c.lose_sets.ensures.opened c.lose_sets.ensures.taken
 
 pub flat_part-finish_by_sets-requires-clause-paths : goal.flat_part-finish_by_sets-requires-clause-paths
