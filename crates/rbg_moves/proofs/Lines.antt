@@ -8,7 +8,7 @@ use Rattle.rbg_state.specs.History.{History}
 use Rattle.rbg_flat.specs.Onward.{IsAlone, IsOnward}
 use Rattle.rbg_flat.specs.declared.onward.Onward.TheVariants.{Modifier}
 use Rattle.rbg_search.specs.Start.{IsPositionOf}
-use Rattle.rbg_search.proofs.Common.{Searching, IsSpent, most_pairs_of}
+use Rattle.rbg_search.proofs.Common.{Searching, IsSpent, most_candidates}
 use Rattle.rbg_search.proofs.Alone.{some_pair}
 use Rattle.rbg_search.proofs.Lone.{further, spent_further, line_answered, line_reached}
 use Rattle.rbg_search.specs.declared.over.Over.{Over}
@@ -44,7 +44,7 @@ switch_applies : (game : AbstractGame) (p n : ℕ) (s : AbstractState) → HasAc
 switch_applies game p n s stands = record { action = switch n; stands = stands; acts = refl }
 
 -- There is a pair of a position and a vertex.
-pub position_pairs : (game : AbstractGame) → IsGame game → (p : ℕ) → IsPositionOf game.rules p → 1 ≤ most_pairs_of game
+pub position_pairs : (game : AbstractGame) → IsGame game → (p : ℕ) → IsPositionOf game.rules p → 1 ≤ most_candidates game
 position_pairs game lawful p position =
     some_pair (length (positions_of game.rules)) (length game.board.first) (p - 1) 0 (omega (arith, position.from_one, position.there)) lawful.some_vertex
 
@@ -64,7 +64,7 @@ kept_further old now new n same taken =
     is ∙ ap (λ (x : Searching). let y : Searching = record old { opened = x.opened; taken = x.taken } in y) (sym is)
 
 -- They were taken up for the line, and for the switch that ends it.
-pub line_followed : {old now new : Searching} {s t : AbstractState} {front front' pairs : List (ℕ × ℕ)} {p q n : ℕ} (stop : Option ℕ) → now ≡ old → IsLine old.game s p pairs t q → EndsWith old.game q stop → front' ≡ front ++ pairs → n ≡ length pairs + openings_of stop → new ≡ further now n → IsGame old.game → 0 < now.modifiers → now.taken ≤ now.opened * most_pairs_of now.game → FollowsLine old new s t front front' p q stop
+pub line_followed : {old now new : Searching} {s t : AbstractState} {front front' pairs : List (ℕ × ℕ)} {p q n : ℕ} (stop : Option ℕ) → now ≡ old → IsLine old.game s p pairs t q → EndsWith old.game q stop → front' ≡ front ++ pairs → n ≡ length pairs + openings_of stop → new ≡ further now n → IsGame old.game → 0 < now.modifiers → now.taken ≤ now.opened * most_candidates now.game → FollowsLine old new s t front front' p q stop
 line_followed {old} {new = new} {pairs = pairs} {n = n} stop same line ends is count taken lawful some few = record {
   pairs = pairs;
   line = line;
@@ -73,11 +73,11 @@ line_followed {old} {new = new} {pairs = pairs} {n = n} stop same line ends is c
   search = subst (λ (x : Searching). new ≡ further x n) same taken ∙ ap (further old) count;
   lawful = lawful;
   some = subst (λ (x : Searching). 0 < x.modifiers) same some;
-  few = subst (λ (x : Searching). x.taken ≤ x.opened * most_pairs_of x.game) same few;
+  few = subst (λ (x : Searching). x.taken ≤ x.opened * most_candidates x.game) same few;
 }
 
 module _ (old new : Searching) (s : AbstractState) (p max : ℕ) (front : List (ℕ × ℕ)) (had has : List (List (ℕ × ℕ))) (first : List (ℕ × ℕ)) (ended : Bool) (lawful : IsGame old.game) (position : IsPositionOf old.game.rules p) (some : 0 < old.modifiers) (spent : IsSpent old.game old.opened old.taken) (few : length had ≤ max) where
-  pairs_some : 1 ≤ most_pairs_of old.game
+  pairs_some : 1 ≤ most_candidates old.game
   pairs_some = position_pairs old.game lawful p position
 
   abbrev at : AbstractState → History

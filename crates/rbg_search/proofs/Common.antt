@@ -4,7 +4,7 @@ pub use Rattle.rbg_search.specs.Counting.{CountsOpenings, IsOverBudget}
 pub use Rattle.rbg_search.specs.Forced.{CountsAllForced, CountsForced, HasFewInRow, TakesAfter}
 pub use Rattle.rbg_search.specs.Passing.{BeginsAmong, CountsBeginning, CountsUpTo, GoesOn, HasRow, IsTooDeep, Passes, asking, finding, from_here, listing, somewhere, trying}
 pub use Rattle.rbg_search.specs.Searching.{Searching, Tally}
-pub use Rattle.rbg_search.specs.Taken.{AreWhole, ComesTo, CountsPairs, CountsTaken, HasMet, HasPart, begins, by_modifier, by_pattern, most_pairs_of}
+pub use Rattle.rbg_search.specs.Taken.{AreWhole, ComesTo, CountsPairs, CountsTaken, HasMet, HasPart, begins, by_modifier, by_pattern, most_candidates}
 pub use Rattle.rbg_search.specs.declared.over.Over.{Over}
 pub use Rattle.rbg_search.specs.declared.over.Over.TheVariants.{Deep, Memory, Wide}
 pub use Rattle.rbg_search.specs.internal.Asked.{BeginsAsked, CountsAsked, GoesAfter, IsAsked, IsCounted, StandsInPattern}

@@ -5,7 +5,7 @@ use Rattle.rbg_state.specs.History.{History}
 use Rattle.rbg_flat.specs.declared.flat.Flat.{Flat}
 use Rattle.rbg_flat.proofs.Common.{Way, HasPairs, CountsMet, IsMarked}
 use Rattle.rbg_search.proofs.Along.{IsFlatPart, at_vertex, IsReached}
-use Rattle.rbg_search.proofs.Common.{CountsForced, Searching, CountsTaken, most_pairs_of, IsAsked, IsBegunBySets, HasSetsFor, IsWhole, BeginsBySets, AdvancesBySets, IsToBeAsked, TakesBySets, FindsBySets, Finds, CountsPart, IsSpentButOne, Over, Memory}
+use Rattle.rbg_search.proofs.Common.{CountsForced, Searching, CountsTaken, most_candidates, IsAsked, IsBegunBySets, HasSetsFor, IsWhole, BeginsBySets, AdvancesBySets, IsToBeAsked, TakesBySets, FindsBySets, Finds, CountsPart, IsSpentButOne, Over, Memory}
 use Rattle.rbg_search.proofs.BySets.{asked_reached, all_asked, not_asked}
 use Rattle.rbg_search.proofs.Counted.{onward_search, search_before}
 use Rattle.rbg_search.proofs.Finding.{finds_more, finds_left, finds_lost, finds_forced, finds_own}
@@ -49,7 +49,7 @@ module _ {way : Way} {h k : Searching} {s l : History} {f : Start} {flat : Flat}
           finds_lost is.finds v p reached_here next_here.pattern not_yet_asked asked r e was gives last kept same counts.many
           (own_part h.game reach s.state f counts.many
           (marked_met way h.game is.finds.lawful.numbered s.state f (IsOk r) (¬ (r ≡ Err Memory)) flat counts.many is.begun counts.has
-          (rules_before (λ x. counts.many ≤ most_pairs_of x) h k' (kept_twice h k k' is.finds.kept asked.kept) counts.few) (not_ok r e gives))) counts.sum
+          (rules_before (λ x. counts.many ≤ most_candidates x) h k' (kept_twice h k k' is.finds.kept asked.kept) counts.few) (not_ok r e gives))) counts.sum
 
       -- It was asked and taken.
       pub sets_more : (flat' : Flat) (valid : Bool) (x : X) → callee ≡ Ok x → IsTrue valid ↔ Applies k.game p (at_vertex l.state v) (at_vertex l.state v) → TakesBySets way k'.game l'.state flat flat' v p valid → ((cut : Bool) → CountsForced k.game cut pattern (at_vertex l.state v) (beginning (inside p)) k.opened k'.opened k.modifiers k.modifiers) → FindsBySets way h k' s l' f flat'
@@ -82,4 +82,4 @@ module _ {way : Way} {h k : Searching} {s l : History} {f : Start} {flat : Flat}
       (own_part h.game reach s.state f counts.many
       (pairs_met way h.game is.finds.lawful.numbered s.state f A H counts.many
       (search_before (λ y z. IsBegunBySets way y.game z f flat → HasPairs way y.game z f counts.many) h k s l is.finds.kept is.finds.given_back (counts.has f) is.begun)
-      (search_before (λ y z. counts.many ≤ most_pairs_of y.game) h k s l is.finds.kept is.finds.given_back counts.few))) counts.sum
+      (search_before (λ y z. counts.many ≤ most_candidates y.game) h k s l is.finds.kept is.finds.given_back counts.few))) counts.sum

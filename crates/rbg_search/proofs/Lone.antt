@@ -3,7 +3,7 @@ use Rattle.rbg_base.proofs.Common.{◌≡◌, ℕ, ◌+◌, ◌-◌, ◌*◌, �
 use Rattle.rbg_rules.specs.Meaning.{positions_of, IsModifierAt, IsNumbered, IsGame, IsStart, IsWithinLimits, Applies, Start, after, Ends, reach, AbstractState, IsStateOf}
 use Rattle.rbg_auto.specs.Steps.{AreAllThatFollow}
 use Rattle.rbg_state.specs.History.{History}
-use Rattle.rbg_search.proofs.Common.{Searching, most_pairs_of, Deep, Memory, Wide, HasReached, IsAnswered, IsAsked, IsSpent, Finds}
+use Rattle.rbg_search.proofs.Common.{Searching, most_candidates, Deep, Memory, Wide, HasReached, IsAnswered, IsAsked, IsSpent, Finds}
 use Rattle.rbg_search.proofs.Along.{IsPositionOf, IsTrialAt}
 use Rattle.rbg_flat.specs.Onward.{IsAlone}
 use Rattle.rbg_search.proofs.Alone.{only_position, some_pair, alone_whole, alone_met, alone_pairs, alone_quiet, none_there}
@@ -15,7 +15,7 @@ use Rattle.rbg_state.specs.declared.state.trials.Trial.TheVariants.{Modifies}
 use Rattle.rbg_search.specs.declared.over.Over.{Over as AnyOver}
 
 -- There is one pair at least.
-pub few : (h : Searching) (s : AbstractState) (f : Start) (p : ℕ) → IsStateOf h.game s → IsNumbered h.game.rules → AreAllThatFollow h.game.rules f (p ∷ []) → 1 ≤ most_pairs_of h.game
+pub few : (h : Searching) (s : AbstractState) (f : Start) (p : ℕ) → IsStateOf h.game s → IsNumbered h.game.rules → AreAllThatFollow h.game.rules f (p ∷ []) → 1 ≤ most_candidates h.game
 few h s f p fits numbered only =
     let there : s.vertex < length h.game.board.first = omega (arith, fits.vertex, fits.vertices) in
     let position : IsPositionOf h.game.rules p = only_position h.game.rules numbered f p only in
@@ -52,9 +52,9 @@ abbrev pub further : Searching → ℕ → Searching
 further h n = record h { opened = h.opened + n; taken = h.taken + n }
 
 -- No more pairs were taken than the openings have.
-pub spent_further : (h : Searching) (n : ℕ) → IsSpent h.game h.opened h.taken → 1 ≤ most_pairs_of h.game → IsSpent h.game (h.opened + n) (h.taken + n)
+pub spent_further : (h : Searching) (n : ℕ) → IsSpent h.game h.opened h.taken → 1 ≤ most_candidates h.game → IsSpent h.game (h.opened + n) (h.taken + n)
 spent_further h n spent some =
-    let product : ℕ = most_pairs_of h.game in
+    let product : ℕ = most_candidates h.game in
     let times : (h.opened + n) * product ≡ h.opened * product + n * product = grind arith in
     let least : n * 1 ≤ n * product = mul-le n 1 n product (omega arith) some in
     record { few = omega (arith, spent.few, times, least) }
@@ -88,9 +88,9 @@ module _ (h : Searching) (lawful : IsGame h.game) (some : 0 < h.modifiers) (spen
   line_reached = found {k = further h 1} begun fits alone.alone no_end modifies refl refl refl
 
 -- The pairs of a line are numbers of 64 bits too.
-pub line_fits : (h : Searching) (n : ℕ) → IsWithinLimits h.game → IsSpent h.game h.opened h.taken → 1 ≤ most_pairs_of h.game → h.opened + n < 2 ^ 32 → h.taken + n < 2 ^ 64
+pub line_fits : (h : Searching) (n : ℕ) → IsWithinLimits h.game → IsSpent h.game h.opened h.taken → 1 ≤ most_candidates h.game → h.opened + n < 2 ^ 32 → h.taken + n < 2 ^ 64
 line_fits h n limits spent some small =
-    let product : ℕ = most_pairs_of h.game in
+    let product : ℕ = most_candidates h.game in
     let least : product ≤ 20000 * 4096 = mul-le (length (positions_of h.game.rules)) (length h.game.board.first) 20000 4096 limits.positions limits.vertices in
     let all : (h.opened + n) * product ≤ (h.opened + n) * (20000 * 4096) = mul-le (h.opened + n) product (h.opened + n) (20000 * 4096) (omega arith) least in
     let sum = (spent_further h n spent some).few in

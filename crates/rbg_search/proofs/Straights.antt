@@ -4,7 +4,7 @@ use Rattle.std.proofs.lemmas.List.Quantifiers.{all_pairs_push}
 use Rattle.rbg_rules.specs.Meaning.{Expression, IsNumbered, IsPatternAt, Start, after, Ends, AbstractGame, AbstractState}
 use Rattle.rbg_auto.specs.Steps.{AreAllThatFollow}
 use Rattle.rbg_search.proofs.Along.{MeetsAll, IsTrialAt, IsPart, CountsPlain, at_vertex}
-use Rattle.rbg_search.proofs.Common.{most_pairs_of, IsScanned, IsScanning, IsTold}
+use Rattle.rbg_search.proofs.Common.{most_candidates, IsScanned, IsScanning, IsTold}
 use Rattle.rbg_state.specs.declared.state.trials.Trial.{Trial}
 use Rattle.rbg_state.specs.declared.state.trials.Trial.TheVariants.{Invalid, Modifies, LeadsTo}
 use Rattle.rbg_search.proofs.Plains.{plain_none}
@@ -82,14 +82,14 @@ module _ {game : AbstractGame} {s : AbstractState} {f : Start} where
       quiet = λ w q reached. All-contains (λ x. ¬ IsPatternAt game.rules x.1) (scanning.done ++ (v, p) ∷ []) (w, q) quiet_on (all_met game s f numbered (scanning.done ++ (v, p) ∷ []) [] ends' part w q reached);
     }
 
-    told : IsNumbered game.rules → (ends' : Bool) (all : ℕ) → IsPart game s f (scanning.done ++ (v, p) ∷ []) (scanning.done ++ (v, p) ∷ []) [] ends' → CountsPlain shifts game.rules (scanning.done ++ (v, p) ∷ []) all → all ≤ most_pairs_of game → IsTold game s f ends' all
+    told : IsNumbered game.rules → (ends' : Bool) (all : ℕ) → IsPart game s f (scanning.done ++ (v, p) ∷ []) (scanning.done ++ (v, p) ∷ []) [] ends' → CountsPlain shifts game.rules (scanning.done ++ (v, p) ∷ []) all → all ≤ most_candidates game → IsTold game s f ends' all
     told numbered ends' all part has few = record {
       scanned = scanned numbered ends' part;
       taken = scanned_met game numbered s f (scanning.done ++ (v, p) ∷ []) shifts all (record { sound = part.sound; begun = part.begun }) once (all_met game s f numbered (scanning.done ++ (v, p) ∷ []) [] ends' part) has few;
     }
 
     -- The last action isn't valid.
-    pub told_up_to : IsNumbered game.rules → (all : ℕ) → CountsPlain shifts game.rules (scanning.done ++ (v, p) ∷ []) all → all ≤ most_pairs_of game → IsTrialAt game s v p Invalid → IsTold game s f ends all
+    pub told_up_to : IsNumbered game.rules → (all : ℕ) → CountsPlain shifts game.rules (scanning.done ++ (v, p) ∷ []) all → all ≤ most_candidates game → IsTrialAt game s v p Invalid → IsTold game s f ends all
     told_up_to numbered all has few invalid = told numbered ends all (invalid_part game s f (scanning.done ++ (v, p) ∷ []) scanning.done [] ends v p scanning.part invalid) has few
 
     -- .. or nothing follows it.
@@ -106,7 +106,7 @@ module _ {game : AbstractGame} {s : AbstractState} {f : Start} where
           all = All-nil (λ (r : ℕ). Contains (scanning.done ++ (v, p) ∷ []) (u, r));
         }
 
-    pub told_through : IsNumbered game.rules → (all : ℕ) → CountsPlain shifts game.rules (scanning.done ++ (v, p) ∷ []) all → all ≤ most_pairs_of game → (u : ℕ) (ps : List ℕ) (last : Bool) → IsTrialAt game s v p (LeadsTo u) → ps ≡ [] → AreAllThatFollow game.rules (after p) ps → Decides last (Ends game.rules (after p) []) → IsTold game s f (ends || last) all
+    pub told_through : IsNumbered game.rules → (all : ℕ) → CountsPlain shifts game.rules (scanning.done ++ (v, p) ∷ []) all → all ≤ most_candidates game → (u : ℕ) (ps : List ℕ) (last : Bool) → IsTrialAt game s v p (LeadsTo u) → ps ≡ [] → AreAllThatFollow game.rules (after p) ps → Decides last (Ends game.rules (after p) []) → IsTold game s f (ends || last) all
     told_through numbered all has few u ps last leads none follow decides = told numbered (ends || last) all (through u ps last leads none follow decides) has few
 
     -- One more action follows.

@@ -7,7 +7,7 @@ use Rattle.rbg_shifts.specs.Leaps.{IsShiftAt, stay}
 use Rattle.rbg_flat.proofs.Common.{Way, leaping, stepping, IsFirstLead, IsOfPart, MayCome, IsCandidate, HasCandidates, HasPairs, CountsMet, IsMarked}
 use Rattle.rbg_flat.specs.declared.flat.Flat.{Flat as SetFlat}
 use Rattle.rbg_flat.proofs.ChainLemmas.{part_of}
-use Rattle.rbg_search.proofs.Common.{Passes, trying, finding, listing, asking, GoesOn, ComesTo, begins, by_pattern, by_modifier, HasMet, HasPart, CountsTaken, most_pairs_of, Over, Memory, IsSpent, IsSpentButOne, AreMany, IsBegunBySets}
+use Rattle.rbg_search.proofs.Common.{Passes, trying, finding, listing, asking, GoesOn, ComesTo, begins, by_pattern, by_modifier, HasMet, HasPart, CountsTaken, most_candidates, Over, Memory, IsSpent, IsSpentButOne, AreMany, IsBegunBySets}
 use Rattle.rbg_search.proofs.Along.{at_vertex, IsReached, first as comes_first, IsMetPart, IsPart, CountsPlain, HasPlain}
 use Rattle.rbg_search.proofs.Closures.{reached, by_words}
 use Rattle.rbg_search.proofs.Glances.{no_pattern}
@@ -97,7 +97,7 @@ candidate_comes : (game : AbstractGame) (s : AbstractState) (f : Start) (v p : �
 candidate_comes game s f v p may = record { before = may.before; here = may.here; no_modifier = may.no_modifier; runs = may.runs; vertex = may.vertex; follows = may.follows }
 
 -- All candidates.
-pub candidates_met : (game : AbstractGame) → IsNumbered game.rules → (s : AbstractState) (f : Start) (A H : Type 0) (many : ℕ) → HasCandidates game s f many → many ≤ most_pairs_of game → HasMet game s f A H many
+pub candidates_met : (game : AbstractGame) → IsNumbered game.rules → (s : AbstractState) (f : Start) (A H : Type 0) (many : ℕ) → HasCandidates game s f many → many ≤ most_candidates game → HasMet game s f A H many
 candidates_met game numbered s f A H many has few = record {
   pairs = has.pairs;
   met = λ v p there. candidate_comes game s f v p ((has.all v p).0 there);
@@ -112,7 +112,7 @@ candidates_met game numbered s f A H many has few = record {
 }
 
 -- All that a flat part has that is led on so.
-pub pairs_met : (way : Way) (game : AbstractGame) → IsNumbered game.rules → (s : AbstractState) (f : Start) (A H : Type 0) (many : ℕ) → HasPairs way game s f many → many ≤ most_pairs_of game → HasMet game s f A H many
+pub pairs_met : (way : Way) (game : AbstractGame) → IsNumbered game.rules → (s : AbstractState) (f : Start) (A H : Type 0) (many : ℕ) → HasPairs way game s f many → many ≤ most_candidates game → HasMet game s f A H many
 pairs_met leaping game numbered s f A H many has few = candidates_met game numbered s f A H many has few
 pairs_met stepping game numbered s f A H many has few = record {
   pairs = has.pairs;
@@ -136,7 +136,7 @@ first_lead leaping game f v p follows plain = record { shifts = []; leads = stay
 first_lead stepping game f v p follows plain = (refl, follows)
 
 -- What a queue has met, which is all that is reached where the question was answered.
-pub reached_met : (game : AbstractGame) → IsNumbered game.rules → (s : AbstractState) (f : Start) (A H : Type 0) (pairs : List (ℕ × ℕ)) (many : ℕ) → IsMetPart game s f pairs → AreMany pairs many → many ≤ most_pairs_of game → (A → (v p : ℕ) → IsReached game s f v p → Contains pairs (v, p)) → HasMet game s f A H many
+pub reached_met : (game : AbstractGame) → IsNumbered game.rules → (s : AbstractState) (f : Start) (A H : Type 0) (pairs : List (ℕ × ℕ)) (many : ℕ) → IsMetPart game s f pairs → AreMany pairs many → many ≤ most_candidates game → (A → (v p : ℕ) → IsReached game s f v p → Contains pairs (v, p)) → HasMet game s f A H many
 reached_met game numbered s f A H pairs many is are few all = record {
   pairs = pairs;
   met = λ v p there. may_come game numbered s f v p (All-contains (λ q. IsReached game s f q.0 q.1) pairs (v, p) is.sound there);
@@ -151,7 +151,7 @@ reached_met game numbered s f A H pairs many is are few all = record {
 }
 
 -- What sets have met so far.
-pub marked_met : (way : Way) (game : AbstractGame) → IsNumbered game.rules → (s : AbstractState) (f : Start) (A H : Type 0) (flat : SetFlat) (many : ℕ) → IsBegunBySets way game s f flat → CountsMet (IsMarked flat.sets) many → many ≤ most_pairs_of game → ¬ A → HasMet game s f A H many
+pub marked_met : (way : Way) (game : AbstractGame) → IsNumbered game.rules → (s : AbstractState) (f : Start) (A H : Type 0) (flat : SetFlat) (many : ℕ) → IsBegunBySets way game s f flat → CountsMet (IsMarked flat.sets) many → many ≤ most_candidates game → ¬ A → HasMet game s f A H many
 marked_met way game numbered s f A H flat many is has few none = record {
   pairs = has.pairs;
   met = λ v p there. part_comes way game s f v p (part_of way game numbered s f v p (is.begun.sound v p ((has.all (v, p)).0 there)));
@@ -178,7 +178,7 @@ nothing_met game s f A H none lost = record {
 }
 
 -- A scan has met all that is reached, and counts its shifts or leaves them out.
-pub scanned_met : (game : AbstractGame) → IsNumbered game.rules → (s : AbstractState) (f : Start) (pairs : List (ℕ × ℕ)) (shifts : Bool) (many : ℕ) → IsMetPart game s f pairs → AllPairs (λ a b. a ≢ b) pairs → ((v p : ℕ) → IsReached game s f v p → Contains pairs (v, p)) → CountsPlain shifts game.rules pairs many → many ≤ most_pairs_of game → HasMet game s f (Unit {0}) (Unit {0}) many
+pub scanned_met : (game : AbstractGame) → IsNumbered game.rules → (s : AbstractState) (f : Start) (pairs : List (ℕ × ℕ)) (shifts : Bool) (many : ℕ) → IsMetPart game s f pairs → AllPairs (λ a b. a ≢ b) pairs → ((v p : ℕ) → IsReached game s f v p → Contains pairs (v, p)) → CountsPlain shifts game.rules pairs many → many ≤ most_candidates game → HasMet game s f (Unit {0}) (Unit {0}) many
 scanned_met game numbered s f pairs true many is different all has few = reached_met game numbered s f (Unit {0}) (Unit {0}) pairs many is (record { different = different; count = sym has }) few (λ _. all)
 scanned_met game numbered s f pairs false many is different all has few = candidates_met game numbered s f (Unit {0}) (Unit {0}) many (reached_pairs game numbered s f pairs many is.sound all has) few
 
@@ -281,7 +281,7 @@ module _ (game : AbstractGame) (question : Question) (s : AbstractState) (f : St
   -- Beside what was taken there is room for the part that was opened first.
   pub room_for_own : {H : Type 0} (a b t u : ℕ) (A : Type 0) → IsSpent game a t → CountsTaken game question s f (a + 1) b t u A H → IsSpentButOne game b u
   room_for_own {H = H} a b t u A spent counts =
-      let m : ℕ = most_pairs_of game in
+      let m : ℕ = most_candidates game in
       let k : ℕ = length counts.parts in
       let sums : sum counts.parts ≤ k * m = sum_by-le (λ (x : ℕ). x) m counts.parts (All-weaker (HasPart game question s f A H) (λ (n : ℕ). n ≤ m) (λ n part. part.has.few) counts.parts counts.found) in
       let times : (a + 1 + k) * m ≡ a * m + m + k * m = grind arith in

@@ -1,8 +1,9 @@
 -- How many pairs of a vertex and a position a search takes: those that its flat parts meet, each when it is met.
-use Rattle.std.specs.Prelude.{◌≡◌, ◌≢◌, ℕ, ◌+◌, ◌*◌, ◌≤◌, ◌⊎◌, List, [], ◌∷◌, length, sum, All, AllPairs, Contains}
-use Rattle.rbg_rules.specs.Meaning.{IsPatternAt, inside, positions_of, Start, beginning, after, Follows, AbstractGame, AbstractState, Question, pattern}
+use Rattle.std.specs.Prelude.{◌≡◌, ◌≢◌, ℕ, ◌+◌, ◌≤◌, ◌⊎◌, List, [], ◌∷◌, length, sum, All, AllPairs, Contains}
+use Rattle.rbg_rules.specs.Meaning.{IsPatternAt, inside, Start, beginning, after, Follows, AbstractGame, AbstractState, Question, pattern}
 use Rattle.rbg_shifts.specs.Leaps.{IsShiftAt}
 use Rattle.rbg_flat.specs.Candidates.{IsCandidate, MayCome}
+pub use Rattle.rbg_flat.specs.Found.{most_candidates}
 use Rattle.rbg_search.specs.Passing.{GoesOn}
 
 -- A question comes to the flat part from t and g: it begins with it, or a pattern does that may come next there or
@@ -20,10 +21,6 @@ pub data ComesTo (game : AbstractGame) (t : AbstractState) (g : Start) : Questio
       GoesOn game question s f v p question' later →
       ComesTo game t g question' later (after p) →
       ComesTo game t g question s f
-
--- the most pairs that a flat part has: each vertex with each position
-abbrev pub most_pairs_of : AbstractGame → ℕ
-most_pairs_of game = length (positions_of game.rules) * length game.board.first
 
 -- The pairs are all that a flat part has: each candidate. Where shifts are followed one by one, they are among the pairs,
 -- each with each vertex at which it may come next; where leaps tell to where they lead, no shift is.
@@ -43,7 +40,7 @@ pub record HasMet
     pub met : (v p : ℕ) → Contains pairs (v, p) → MayCome game s f v p
     pub different : AllPairs (λ a b. a ≢ b) pairs
     pub count : length pairs ≡ many
-    pub few : many ≤ most_pairs_of game
+    pub few : many ≤ most_candidates game
     pub begun :
         Held → (p : ℕ) → Follows game.rules f (p ∷ []) → ¬ IsShiftAt game.rules p → Contains pairs (s.vertex, p)
     pub whole : Answered → AreWhole game s f pairs

@@ -4,7 +4,7 @@ ghost use Rattle.std.specs.Prelude.{◌≡◌, ◌<◌, ◌≤◌, ◌↔◌, le
 ghost use Rattle.rbg_rules.specs.Meaning.{Applies, IsPatternAt, inside, pattern, AbstractState, IsStateOf, beginning};
 ghost use Rattle.rbg_search.specs.Closure.{at_vertex};
 ghost use Rattle.rbg_search.specs.Forced.{CountsForced};
-ghost use Rattle.rbg_search.specs.Taken.{CountsTaken, HasMet, most_pairs_of};
+ghost use Rattle.rbg_search.specs.Taken.{CountsTaken, HasMet, most_candidates};
 ghost use Rattle.rbg_search.specs.internal.Asked.{IsCounted};
 ghost use Rattle.rbg_search.specs.internal.Straight.{IsScanned, IsTold};
 
@@ -74,7 +74,7 @@ impl<'a, S: Steps> Search<'a, S> {
     /// Whether a pattern is valid by the scan along its inside, for which one more opening is taken up.
     pub(crate) fn answer(&mut self, position: Position, scan: PatternScan) -> Result<bool, Over>
         requires there { IsPatternAt self.old.game.rules position }
-        requires few { scan.pairs ≤ most_pairs_of self.old.game }
+        requires few { scan.pairs ≤ most_candidates self.old.game }
         ensures kept { self.new ≡ record self.old { opened = self.new.opened; taken = self.new.taken } }
         ensures valid { IfOk result (λ valid. (s : AbstractState)
             → IsScanned self.old.game s (beginning (inside position)) scan.ends

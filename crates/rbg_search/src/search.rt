@@ -4,7 +4,7 @@ ghost use Rattle.rbg_rules.specs.Meaning.{AbstractState, IsStateOf, IsModifierAt
 ghost use Rattle.rbg_search.specs.Forced.{CountsForced};
 ghost use Rattle.rbg_flat.specs.Onward.{IsOnward};
 ghost use Rattle.rbg_flat.specs.Paths.{ArePathsOf};
-ghost use Rattle.rbg_search.specs.Taken.{CountsTaken, most_pairs_of};
+ghost use Rattle.rbg_search.specs.Taken.{CountsTaken, most_candidates};
 ghost use Rattle.rbg_search.specs.internal.Taking.{RanAfter};
 ghost use Rattle.rbg_search.specs.Answered.{IsAnswered, HasReached};
 ghost use Rattle.rbg_search.specs.internal.Asked.{StandsInPattern, IsCounted, IsAsked};
@@ -181,7 +181,7 @@ impl<'a, S: Steps> Search<'a, S> {
     /// one by one; where the game has leaps, none is met.
     pub fn taken(&self) -> u64
         ensures taken { result ≡ self.now.taken }
-        ensures few { self.now.taken ≤ self.now.opened * most_pairs_of self.now.game }
+        ensures few { self.now.taken ≤ self.now.opened * most_candidates self.now.game }
     {
         self.taken
     }
@@ -313,10 +313,10 @@ impl<'a, S: Steps> Search<'a, S> {
     #[inline(always)]
     pub fn take_line(&mut self, modifiers: u32)
         requires left { self.old.opened + modifiers ≤ self.old.openings }
-        requires pairs { 1 ≤ most_pairs_of self.old.game }
+        requires pairs { 1 ≤ most_candidates self.old.game }
         ensures search { self.new ≡ record self.old { opened = self.old.opened + modifiers; taken = self.old.taken + modifiers } }
         ensures some { 0 < self.old.modifiers }
-        ensures few { self.old.taken ≤ self.old.opened * most_pairs_of self.old.game }
+        ensures few { self.old.taken ≤ self.old.opened * most_candidates self.old.game }
     {
         // The game is lawful, and the budget's openings are a number of 32 bits, so the sum of pairs is one of 64 bits.
         let _game = self.rules.game();
@@ -459,7 +459,7 @@ impl<'a, S: Steps> Search<'a, S> {
 
     /// Counts the pairs of a flat part. It was opened, and isn't counted yet.
     pub(crate) fn count_pairs(&mut self, pairs: usize)
-        requires few { pairs ≤ most_pairs_of self.old.game }
+        requires few { pairs ≤ most_candidates self.old.game }
         requires one { IsSpentButOne self.old.game self.old.opened self.old.taken }
         ensures kept { self.new ≡ record self.old { opened = self.new.opened; taken = self.new.taken } }
         ensures opened { self.new.opened ≡ self.old.opened }

@@ -3,7 +3,7 @@ use Rattle.std.specs.Prelude.{◌≡◌, ℕ, ◌+◌, ◌*◌, ◌<◌, ◌≤�
 use Rattle.rbg_rules.specs.Meaning.{AbstractGame, AbstractState, IsGame, IsStateOf, IsModifierAt, IsSwitchAt, Applies}
 use Rattle.rbg_flat.specs.Onward.{IsAlone}
 use Rattle.rbg_search.specs.Searching.{Searching}
-use Rattle.rbg_search.specs.Taken.{most_pairs_of}
+use Rattle.rbg_search.specs.Taken.{most_candidates}
 
 -- From after position p in the semi-state s one modifier alone comes next after another, each valid and none a switch:
 -- these pairs, up to after position q in the semi-state t.
@@ -48,4 +48,4 @@ pub record FollowsLine
         }
     pub lawful : IsGame old.game
     pub some : 0 < old.modifiers
-    pub few : old.taken ≤ old.opened * most_pairs_of old.game
+    pub few : old.taken ≤ old.opened * most_candidates old.game

@@ -1,5 +1,5 @@
 use Rattle.std.proofs.Common.{◌≡◌, ◌+◌, ◌≤◌, sym, ◌∙◌, IsTrue, ◌↔◌}
-use Rattle.rbg_search.proofs.Common.{most_pairs_of, Deep, Wide}
+use Rattle.rbg_search.proofs.Common.{most_candidates, Deep, Wide}
 use Rattle.rbg_search.proofs.Fewness.{one_opened}
 use Rattle.rbg_search.proofs.Takings.{takes_none_yet, takes_own, own_part, met_as}
 use Rattle.rbg_rules.specs.Meaning.{inside, beginning, Applies, IsStart, SomeWordRuns, pattern}
@@ -43,7 +43,7 @@ returns-clause-forced g c = λ s cut scanned.
     scanned_forced c.args.self.now.game c.open.ensures.lawful.numbered s (beginning (inside c.args.position)) cut c.args.scan.ends c.args.self.now.opened c.count_pairs.new.self.opened c.args.self.now.modifiers c.args.self.now.modifiers scanned opened
 
 pub count_pairs-requires-clause-few : goal.count_pairs-requires-clause-few
-count_pairs-requires-clause-few g c = onward_rules (λ x. c.args.scan.pairs ≤ most_pairs_of x) c.args.self.now c.open.new.self c.open.ensures.kept c.requires.few
+count_pairs-requires-clause-few g c = onward_rules (λ x. c.args.scan.pairs ≤ most_candidates x) c.args.self.now c.open.new.self c.open.ensures.kept c.requires.few
 
 pub count_pairs-requires-clause-one : goal.count_pairs-requires-clause-one
 count_pairs-requires-clause-one g c = one_opened c.args.self.now c.open.new.self c.open.ensures.kept c.open.ensures.none_taken c.open.ensures.spent c.in_ok-open.ensures.opened

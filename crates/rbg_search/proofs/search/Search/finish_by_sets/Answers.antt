@@ -4,7 +4,7 @@ use Rattle.rbg_flat.specs.declared.flat.Flat.{Flat}
 use Rattle.rbg_flat.proofs.Common.{MayEnd, AreFound, HasPairs}
 use Rattle.rbg_search.specs.Flat.{IsFlatPart}
 use Rattle.rbg_flat.specs.Paths.{way_of}
-use Rattle.rbg_search.proofs.Common.{Searching, most_pairs_of, IsBegunBySets, IsWhole}
+use Rattle.rbg_search.proofs.Common.{Searching, most_candidates, IsBegunBySets, IsWhole}
 use Rattle.rbg_search.proofs.BySets.{found_part}
 use Rattle.rbg_search.proofs.search.Search.finish_by_sets.Goals as goal
 
@@ -34,7 +34,7 @@ returns-in-Ok-clause-taken g c =
           let before : IsBegunBySets (way_of c.args.paths.now) game s f c.deref_mut.result.now = subst (λ (x : Flat). IsBegunBySets (way_of c.args.paths.now) game s f x) (sym c.deref_mut.ensures.value) here in
           subst (λ (x : AbstractGame). HasPairs (way_of c.args.paths.now) x s f c.in-Ok.many) same (c.in-Ok.ensures.count f before.begun);
       sum = ap (λ (x : Searching). x.taken) c.self-in-Ok.view_is ∙ c.count_pairs.ensures.taken;
-      few = subst (λ (x : AbstractGame). c.in-Ok.many ≤ most_pairs_of x) same c.in-Ok.ensures.few;
+      few = subst (λ (x : AbstractGame). c.in-Ok.many ≤ most_candidates x) same c.in-Ok.ensures.few;
     }
 
 pub returns-in-Err-clause-taken : goal.returns-in-Err-clause-taken
@@ -49,5 +49,5 @@ returns-in-Err-clause-taken g c =
           let before : IsBegunBySets (way_of c.args.paths.now) game s f c.deref_mut.result.now = subst (λ (x : Flat). IsBegunBySets (way_of c.args.paths.now) game s f x) (sym c.deref_mut.ensures.value) here in
           subst (λ (x : AbstractGame). HasPairs (way_of c.args.paths.now) x s f c.in-Err.lost.many) same (c.in-Err.ensures.count_lost f before.begun);
       sum = c.count_pairs-in-Err.ensures.taken;
-      few = subst (λ (x : AbstractGame). c.in-Err.lost.many ≤ most_pairs_of x) same c.in-Err.ensures.few_lost;
+      few = subst (λ (x : AbstractGame). c.in-Err.lost.many ≤ most_candidates x) same c.in-Err.ensures.few_lost;
     }

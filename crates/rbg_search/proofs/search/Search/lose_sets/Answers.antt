@@ -2,7 +2,7 @@ use Rattle.std.proofs.Common.{◌≡◌, ◌≤◌, ap, ◌∙◌, subst}
 use Rattle.rbg_rules.specs.Meaning.{AbstractGame}
 use Rattle.rbg_flat.proofs.Common.{CountsMet, IsMarked}
 use Rattle.rbg_flat.specs.declared.flat.Flat.{Flat}
-use Rattle.rbg_search.proofs.Common.{Searching, most_pairs_of}
+use Rattle.rbg_search.proofs.Common.{Searching, most_candidates}
 use Rattle.rbg_search.proofs.search.Search.lose_sets.Goals as goal
 
 pub returns-clause-taken : goal.returns-clause-taken
@@ -13,5 +13,5 @@ returns-clause-taken g c =
       many = c.count_met-many.result;
       has = subst (λ (x : Flat). CountsMet (IsMarked x.sets) c.count_met-many.result) c.deref_mut.ensures.value c.count_met-many.ensures.count;
       sum = c.count_pairs.ensures.taken;
-      few = subst (λ (x : AbstractGame). c.count_met-many.result ≤ most_pairs_of x) same c.count_met-many.ensures.few;
+      few = subst (λ (x : AbstractGame). c.count_met-many.result ≤ most_candidates x) same c.count_met-many.ensures.few;
     }
