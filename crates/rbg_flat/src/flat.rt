@@ -26,7 +26,7 @@ use crate::passing::held;
 use crate::paths::{Kind, Paths};
 use crate::sets::Sets;
 use crate::setting::Setting;
-use crate::words::{lowest, unit_word, without};
+use crate::words::{RowWord, lowest, unit_word, without};
 use rbg_base::{Direction, Memory, Pair, Position, Vertex};
 use rbg_rules::{Action, Game};
 use rbg_shifts::{Leaps, Origin};
@@ -162,10 +162,15 @@ impl Flat {
     {
         let setting = Setting { game, paths, state };
         let column = vertex as usize / 64;
-        let word = unit_word(vertex % 64);
-        let held = if valid { word } else { 0 };
+        let bits = unit_word(vertex % 64);
+        let held = if valid { bits } else { 0 };
         let place = self.sets.place(position, column);
-        self.take_word(&setting, place, position, column, word, held);
+        let word = RowWord {
+            position,
+            column,
+            bits,
+        };
+        self.take_word(&setting, place, word, held);
     }
 
     /// The vertices that are open at a position, in the column of a vertex.
@@ -232,7 +237,12 @@ impl Flat {
         let setting = Setting { game, paths, state };
         let column = vertex as usize / 64;
         let place = self.sets.place(position, column);
-        self.take_word(&setting, place, position, column, word.asked, word.held);
+        let asked = RowWord {
+            position,
+            column,
+            bits: word.asked,
+        };
+        self.take_word(&setting, place, asked, word.held);
     }
 
     /// Whether a word may end with no modifier more, once nothing is left to be looked at.
@@ -384,50 +394,48 @@ impl Flat {
             → IsDone self.new.sets v p → IsDone self.old.sets v p }
         ensures less { weight self.new.sets < weight self.old.sets }
     {
-        let word = self.sets.open_at(place, position, column);
-        let held = held(setting, position, column, word);
-        self.take_word(setting, place, position, column, word, held);
+        let bits = self.sets.open_at(place, position, column);
+        let held = held(setting, position, column, bits);
+        let word = RowWord {
+            position,
+            column,
+            bits,
+        };
+        self.take_word(setting, place, word, held);
     }
 
     /// Takes the bits of a word off what is open at the latest waiting place, and leads on from those at which the
     /// position holds.
     #[inline(always)]
-    fn take_word(
-        &mut self,
-        setting: &Setting,
-        place: usize,
-        position: Position,
-        column: usize,
-        word: u64,
-        held: u64,
-    )
+    fn take_word(&mut self, setting: &Setting, place: usize, word: RowWord, held: u64)
         requires ready { AreReady setting.now self.old.sets }
-        requires latest { IsLatest self.old.sets place position column }
-        requires position { IsPositionIn setting.now.game.now position }
-        requires board { IsOnBoard setting.now.game.now column word }
-        requires marked { (b : ℕ) → bit_at word b ≡ 1
-            → (b < 64) × IsMarked self.old.sets (column * 64 + b) position }
-        requires within { (b : ℕ) → bit_at held b ≡ 1 → bit_at word b ≡ 1 }
+        requires latest { IsLatest self.old.sets place word.position word.column }
+        requires position { IsPositionIn setting.now.game.now word.position }
+        requires board { IsOnBoard setting.now.game.now word.column word.bits }
+        requires marked { (b : ℕ) → bit_at word.bits b ≡ 1
+            → (b < 64) × IsMarked self.old.sets (word.column * 64 + b) word.position }
+        requires within { (b : ℕ) → bit_at held b ≡ 1 → bit_at word.bits b ≡ 1 }
         ensures sized { AreSizedFor setting.now.game.now self.new.sets }
         ensures begun { (f : Start)
-            → ((b : ℕ) → b < 64 → bit_at word b ≡ 1 → (bit_at held b ≡ 1)
-            ↔ Holds setting.now.game.now setting.now.state.now.state (column * 64 + b) position)
+            → ((b : ℕ) → b < 64 → bit_at word.bits b ≡ 1 → (bit_at held b ≡ 1)
+            ↔ Holds setting.now.game.now setting.now.state.now.state (word.column * 64 + b) word.position)
             → HasBegun setting.now f self.old → HasBegun setting.now f self.new }
         ensures on { AreOn setting.now.game.now self.old.sets
             → AreOn setting.now.game.now self.new.sets }
         ensures still_done { KeepsDone self.old.sets self.new.sets }
-        ensures done { (v : ℕ) → IsInWord position column word v position
-            → IsDone self.new.sets v position }
+        ensures done { (v : ℕ) → IsInWord word.position word.column word.bits v word.position
+            → IsDone self.new.sets v word.position }
         ensures quiet { (v p : ℕ) → IsPatternAt setting.now.game.now.rules p
-            → ¬ IsInWord position column word v p → IsDone self.new.sets v p
+            → ¬ IsInWord word.position word.column word.bits v p → IsDone self.new.sets v p
             → IsDone self.old.sets v p }
-        ensures less { (v : ℕ) → IsOpen self.old.sets v position
-            → IsInWord position column word v position
+        ensures less { (v : ℕ) → IsOpen self.old.sets v word.position
+            → IsInWord word.position word.column word.bits v word.position
             → weight self.new.sets < weight self.old.sets }
     {
-        self.sets.close_word(place, position, column, word);
+        self.sets
+            .close_word(place, word.position, word.column, word.bits);
         if held != 0 {
-            self.lead_word(setting, position, column, held);
+            self.lead_word(setting, word.position, word.column, held);
         }
     }
 
@@ -448,37 +456,37 @@ impl Flat {
             return;
         }
         match setting.paths.leaps() {
-            Some(leaps) => self.leap_word(setting, leaps, position, column, word),
+            Some(leaps) => {
+                let word = RowWord {
+                    position,
+                    column,
+                    bits: word,
+                };
+                self.leap_word(setting, leaps, word);
+            }
             None => self.step_word(setting, position, column, word),
         }
     }
 
     /// Leads on by leaps from a position at each vertex of a word, one after another.
     #[inline(always)]
-    fn leap_word(
-        &mut self,
-        setting: &Setting,
-        leaps: &Leaps,
-        position: Position,
-        column: usize,
-        word: u64,
-    )
+    fn leap_word(&mut self, setting: &Setting, leaps: &Leaps, word: RowWord)
         requires ready { AreReady setting.now self.old.sets }
         requires leaps { AreLeapsOf setting.now.game.now leaps.now }
-        requires board { IsOnBoard setting.now.game.now column word }
-        requires position { IsPositionIn setting.now.game.now position }
+        requires board { IsOnBoard setting.now.game.now word.column word.bits }
+        requires position { IsPositionIn setting.now.game.now word.position }
         ensures { LeadsOn setting.now self.old self.new
-            (LeadsFrom leaping setting.now.game.now position column word)
-            (EndsFrom leaping setting.now.game.now position column word) }
+            (LeadsFrom leaping setting.now.game.now word.position word.column word.bits)
+            (EndsFrom leaping setting.now.game.now word.position word.column word.bits) }
     {
         // an action stands there
-        let _action = setting.game.action(position);
-        let mut rest = word;
+        let _action = setting.game.action(word.position);
+        let mut rest = word.bits;
         while rest != 0 {
             let bit = lowest(rest);
-            let vertex = column as Vertex * 64 + bit;
+            let vertex = word.column as Vertex * 64 + bit;
             rest = without(rest, bit);
-            self.leap(setting, leaps, Origin::After(position), vertex);
+            self.leap(setting, leaps, Origin::After(word.position), vertex);
         }
     }
 
@@ -495,34 +503,34 @@ impl Flat {
             (EndsFrom (way_in setting.now) setting.now.game.now position column word) }
     {
         match direction_of(setting.game, position) {
-            Some(direction) => self.step_across(setting, position, direction, column, word),
+            Some(direction) => {
+                let word = RowWord {
+                    position,
+                    column,
+                    bits: word,
+                };
+                self.step_across(setting, direction, word);
+            }
             None => self.lead_still(setting, position, column, word),
         }
     }
 
     /// Leads on from a shift at each vertex of a word, along its edge.
     #[inline(always)]
-    fn step_across(
-        &mut self,
-        setting: &Setting,
-        position: Position,
-        direction: Direction,
-        column: usize,
-        word: u64,
-    )
+    fn step_across(&mut self, setting: &Setting, direction: Direction, word: RowWord)
         requires ready { AreReady setting.now self.old.sets }
-        requires board { IsOnBoard setting.now.game.now column word }
-        requires shift { HasAction setting.now.game.now.rules position (shift direction) }
+        requires board { IsOnBoard setting.now.game.now word.column word.bits }
+        requires shift { HasAction setting.now.game.now.rules word.position (shift direction) }
         ensures { LeadsOn setting.now self.old self.new
-            (LeadsFrom stepping setting.now.game.now position column word)
-            (EndsFrom stepping setting.now.game.now position column word) }
+            (LeadsFrom stepping setting.now.game.now word.position word.column word.bits)
+            (EndsFrom stepping setting.now.game.now word.position word.column word.bits) }
     {
-        let mut rest = word;
+        let mut rest = word.bits;
         while rest != 0 {
             let bit = lowest(rest);
-            let vertex = column as Vertex * 64 + bit;
+            let vertex = word.column as Vertex * 64 + bit;
             rest = without(rest, bit);
-            self.step_from(setting, position, direction, vertex);
+            self.step_from(setting, word.position, direction, vertex);
         }
     }
 

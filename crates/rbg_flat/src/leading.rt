@@ -8,32 +8,27 @@ ghost use Rattle.rbg_flat.specs.internal.Setting.{AreReady, IsToTryIn};
 use crate::passing::to_try;
 use crate::sets::Sets;
 use crate::setting::Setting;
+use crate::words::RowWord;
 use rbg_base::Position;
 use rbg_shifts::Target;
 
 /// Meets the vertices of a word at a position, whose word is at a place. What is new of them is to be looked at, unless a
 /// modifier stands there, an on of which no piece stands on the vertex, or a comparison that doesn't hold.
 #[inline(always)]
-fn meet_at(
-    sets: &mut Sets,
-    setting: &Setting,
-    place: usize,
-    position: Position,
-    column: usize,
-    word: u64,
-)
+fn meet_at(sets: &mut Sets, setting: &Setting, place: usize, word: RowWord)
     requires ready { AreReady setting.now sets.old }
-    requires position { IsPositionIn setting.now.game.now position }
+    requires position { IsPositionIn setting.now.game.now word.position }
     requires place { place < length sets.old.marks }
-    requires at { place ≡ position * sets.old.columns + column }
-    requires column { column < row_words setting.now.game.now }
-    ensures { Meets sets.old sets.new (IsInWord position column word) (IsToTryIn setting.now) }
+    requires at { place ≡ word.position * sets.old.columns + word.column }
+    requires column { word.column < row_words setting.now.game.now }
+    ensures { Meets sets.old sets.new (IsInWord word.position word.column word.bits)
+        (IsToTryIn setting.now) }
 {
-    if sets.knows(place, position, column, word) {
+    if sets.knows(place, word.position, word.column, word.bits) {
         return;
     }
-    let opens = to_try(setting, position, column);
-    sets.meet_word(place, position, column, word, opens);
+    let opens = to_try(setting, word.position, word.column);
+    sets.meet_word(place, word, opens);
 }
 
 /// Meets the vertices of a target. Where each row has one word, the place is the position.
@@ -48,11 +43,21 @@ fn meet_target(sets: &mut Sets, setting: &Setting, target: &Target, narrow: bool
 {
     if narrow {
         let place = sets.narrow_place(target.position);
-        meet_at(sets, setting, place, target.position, 0, target.word);
+        let word = RowWord {
+            position: target.position,
+            column: 0,
+            bits: target.word,
+        };
+        meet_at(sets, setting, place, word);
     } else {
         let column = target.column as usize;
         let place = sets.place(target.position, column);
-        meet_at(sets, setting, place, target.position, column, target.word);
+        let word = RowWord {
+            position: target.position,
+            column,
+            bits: target.word,
+        };
+        meet_at(sets, setting, place, word);
     }
 }
 
@@ -91,16 +96,21 @@ pub(crate) fn meet_bits(
     setting: &Setting,
     positions: &[Position],
     column: usize,
-    word: u64,
+    bits: u64,
 )
     requires ready { AreReady setting.now sets.old }
     requires column { column < row_words setting.now.game.now }
     requires positions { All (IsPositionIn setting.now.game.now) positions.now }
-    ensures { Meets sets.old sets.new (IsAmongBits positions.now column word)
+    ensures { Meets sets.old sets.new (IsAmongBits positions.now column bits)
         (IsToTryIn setting.now) }
 {
     for position in positions {
         let place = sets.place(*position, column);
-        meet_at(sets, setting, place, *position, column, word);
+        let word = RowWord {
+            position: *position,
+            column,
+            bits,
+        };
+        meet_at(sets, setting, place, word);
     }
 }

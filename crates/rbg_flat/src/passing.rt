@@ -13,7 +13,7 @@ ghost use Rattle.rbg_flat.specs.internal.Setting.{IsLawfulSetting, IsToTryIn};
 use crate::flat::{direction_of, edge};
 use crate::paths::{Kind, Paths};
 use crate::setting::Setting;
-use crate::words::{full_word, lowest, unit_word, without};
+use crate::words::{RowWord, full_word, lowest, unit_word, without};
 use rbg_base::{Direction, Piece, Position, Vertex};
 use rbg_rules::{Action, Game};
 use rbg_state::{SemiState, Trial};
@@ -252,40 +252,35 @@ fn plain_passing(
         ↔ Holds game.now state.now.state (column * 64 + b) position }
 {
     match direction_of(game, position) {
-        Some(direction) => crossing(game, state, position, direction, column, word),
+        Some(direction) => {
+            let word = RowWord {
+                position,
+                column,
+                bits: word,
+            };
+            crossing(game, state, direction, word)
+        }
         None => passing(game, state, position, column, word),
     }
 }
 
 /// The bits of a word from whose vertices the edge of a shift leads on.
 #[inline(always)]
-fn crossing(
-    game: &Game,
-    state: &SemiState,
-    position: Position,
-    direction: Direction,
-    column: usize,
-    word: u64,
-) -> u64
+fn crossing(game: &Game, state: &SemiState, direction: Direction, word: RowWord) -> u64
     requires lawful { IsGame game.now }
-    requires shift { HasAction game.now.rules position (shift direction) }
-    requires board { IsOnBoard game.now column word }
-    ensures within { (b : ℕ) → bit_at result b ≡ 1 → bit_at word b ≡ 1 }
-    ensures told { (b : ℕ) → b < 64 → bit_at word b ≡ 1 → (bit_at result b ≡ 1)
-        ↔ Holds game.now state.now.state (column * 64 + b) position }
+    requires shift { HasAction game.now.rules word.position (shift direction) }
+    requires board { IsOnBoard game.now word.column word.bits }
+    ensures within { (b : ℕ) → bit_at result b ≡ 1 → bit_at word.bits b ≡ 1 }
+    ensures told { (b : ℕ) → b < 64 → bit_at word.bits b ≡ 1 → (bit_at result b ≡ 1)
+        ↔ Holds game.now state.now.state (word.column * 64 + b) word.position }
 {
-    let mut passed = word;
-    let mut rest = word;
+    let mut passed = word.bits;
+    let mut rest = word.bits;
     while rest != 0 {
         let bit = lowest(rest);
         rest = without(rest, bit);
-        if !crosses(
-            game,
-            state,
-            column as Vertex * 64 + bit,
-            position,
-            direction,
-        ) {
+        let vertex = word.column as Vertex * 64 + bit;
+        if !crosses(game, state, vertex, word.position, direction) {
             passed = without(passed, bit);
         }
     }

@@ -5,7 +5,7 @@ ghost use Rattle.rbg_flat.specs.internal.Sets.{MeetsWord, IsInWord, ClosesWord, 
 ghost use Rattle.rbg_flat.specs.internal.Places.{ForgetsPlace};
 
 use crate::table::BitTable;
-use crate::words::{lowest, shared};
+use crate::words::{RowWord, lowest, shared};
 use rbg_base::{Memory, Position, Vertex};
 use std::alloc::Global;
 use std::marker::Model;
@@ -190,20 +190,13 @@ impl Sets {
     /// Meets the bits of a word of the row of a position, which is at a place. What is new of them is to be looked at
     /// where `opens` has a bit too.
     #[inline(always)]
-    pub(crate) fn meet_word(
-        &mut self,
-        place: usize,
-        position: Position,
-        column: usize,
-        word: u64,
-        opens: u64,
-    )
+    pub(crate) fn meet_word(&mut self, place: usize, word: RowWord, opens: u64)
         requires place { place < length self.old.marks }
-        requires at { place ≡ position * self.old.columns + column }
-        requires column { column < self.old.columns }
-        ensures { MeetsWord self.old self.new position column word opens }
+        requires at { place ≡ word.position * self.old.columns + word.column }
+        requires column { word.column < self.old.columns }
+        ensures { MeetsWord self.old self.new word.position word.column word.bits opens }
     {
-        let new = new_of(word, self.marks.word(place));
+        let new = new_of(word.bits, self.marks.word(place));
         if new == 0 {
             return;
         }

@@ -2,6 +2,16 @@
 ghost use Rattle.std.specs.Prelude.{◌≡◌, ◌≢◌, ℕ, ◌<◌, ◌≤◌, ◌⊎◌};
 ghost use Rattle.std.specs.Int.{bit_at, trailing_zeros, w64};
 
+use rbg_base::Position;
+
+/// Vertices of one column, as bits of a word of the row of a position.
+#[derive(Clone, Copy, Drop)]
+pub(crate) struct RowWord {
+    pub position: Position,
+    pub column: usize,
+    pub bits: u64,
+}
+
 /// The place of the lowest bit of a word.
 #[inline(always)]
 pub fn lowest(word: u64) -> u32

@@ -7,6 +7,7 @@ ghost use Rattle.rbg_shifts.specs.internal.Tables.{entry_at, HasEndAt, IsUnder, 
 use crate::adding::{NOWHERE, find, unit};
 use crate::ground::Ground;
 use crate::lists::Lists;
+use crate::setting::Setting;
 use crate::table::{Entry, Table};
 use crate::target::Target;
 use rbg_base::{Position, Vertex};
@@ -73,25 +74,25 @@ fn tells_all(table: &Table, entry: Entry, other: Entry) -> bool
 }
 
 /// Whether an entry records what one step by a position leads to.
+#[inline(always)]
 fn is_told(
     table: &Table,
-    lists: &Lists,
-    ground: &Ground<'_>,
+    setting: &Setting,
     entry: Entry,
     vertex: Vertex,
     position: Position,
 ) -> bool
-    requires laid_out { IsLaidOut ground.now lists.now table.now }
+    requires laid_out { IsLaidOut setting.now.ground.now setting.now.lists.now table.now }
     requires within { IsWithin (length table.now.targets.items) entry }
-    requires vertex { vertex < length ground.now.board.first }
-    ensures { IsTrue result → RecordsStepAt ground.now lists.now table.now entry vertex position }
+    requires vertex { vertex < length setting.now.ground.now.board.first }
+    ensures { IsTrue result → RecordsStepAt setting.now.ground.now setting.now.lists.now table.now entry vertex position }
 {
-    if !ground.is_shift(position) {
+    if !setting.ground.is_shift(position) {
         let mut likely = NOWHERE;
         return tells(table, entry, unit(position, vertex), &mut likely);
     }
-    match ground.to(vertex, position) {
-        Some(to) => tells_all(table, entry, table.entry(lists.after(position), to)),
+    match setting.ground.to(vertex, position) {
+        Some(to) => tells_all(table, entry, table.entry(setting.lists.after(position), to)),
         None => true,
     }
 }
@@ -107,10 +108,11 @@ fn records_step_everywhere(
     requires laid_out { IsLaidOut ground.now lists.now table.now }
     ensures { IsTrue result → RecordsStepEverywhere ground.now lists.now table.now node position }
 {
+    let setting = Setting { lists, ground };
     for index in 0..ground.vertices() {
         let vertex = index as Vertex;
         let entry = table.entry(node, vertex);
-        if !is_told(table, lists, ground, entry, vertex, position) {
+        if !is_told(table, &setting, entry, vertex, position) {
             return false;
         }
     }

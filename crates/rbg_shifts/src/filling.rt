@@ -12,69 +12,67 @@ use crate::branches::Branch;
 use crate::gathering::gather;
 use crate::ground::Ground;
 use crate::lists::Lists;
-use crate::table::{Entry, Table};
+use crate::setting::Setting;
+use crate::table::{Entry, Spot, Table};
 use rbg_base::{Direction, Memory, Position, Vertex};
 use std::alloc::Global;
 
 /// Whether there was memory for what is filled.
 type Filled = Result<(), Memory>;
 
+/// A node from which one shift leads on, with what is the same at each vertex.
+#[derive(Clone, Copy, Drop)]
+struct OnlyShift {
+    node: usize,
+    branch: Branch,
+    direction: Direction,
+    may_end: bool,
+}
+
 /// Puts what one step leads to into the entry of a node and a vertex.
 #[inline(always)]
 fn fill_one(
     table: &mut Table,
-    lists: &Lists,
-    ground: &Ground<'_>,
-    node: usize,
-    vertex: Vertex,
+    setting: &Setting,
+    spot: Spot,
     list: &[Branch],
     may_end: bool,
 ) -> Filled
-    requires at { IsRightAt ground.now lists.now table.old node }
-    requires list { list.now ≡ branches_at lists.now node }
-    requires may_end { may_end ≡ may_end_at lists.now.interner node }
-    requires vertex { vertex < length ground.now.board.first }
-    ensures { OnOk result (FillsOne ground.now lists.now table.old table.new node vertex) }
+    requires at { IsRightAt setting.now.ground.now setting.now.lists.now table.old spot.node }
+    requires list { list.now ≡ branches_at setting.now.lists.now spot.node }
+    requires may_end { may_end ≡ may_end_at setting.now.lists.now.interner spot.node }
+    requires vertex { spot.vertex < length setting.now.ground.now.board.first }
+    ensures { OnOk result (FillsOne setting.now.ground.now setting.now.lists.now table.old table.new spot.node spot.vertex) }
 {
     let start = table.targets.len();
-    let ends = gather(table, start, lists, ground, node, list, may_end, vertex)?;
-    table.put(node, vertex, start, ends)?;
+    let ends = gather(table, setting, spot, list, may_end)?;
+    table.put(spot.node, spot.vertex, start, ends)?;
     Ok(())
 }
 
-/// The entry of a node and a vertex, with what is recorded after a shift of its list. The caller computes once what
-/// doesn't depend on the vertex.
+/// The entry of a vertex at a node from which one shift leads on, with what is recorded after the shift.
 #[inline(always)]
-fn entry_after(
-    table: &Table,
-    lists: &Lists,
-    ground: &Ground<'_>,
-    node: usize,
-    vertex: Vertex,
-    branch: &Branch,
-    direction: Direction,
-    may_end: bool,
-) -> Entry
-    requires right { IsRightSoFar ground.now lists.now table.now }
-    requires branch { IsBranch ground.now.rules lists.now.afters.items branch.now.position branch.now }
-    requires direction { branch.now.direction ≡ Some direction }
-    requires may_end { may_end ≡ may_end_at lists.now.interner node }
-    requires vertex { vertex < length ground.now.board.first }
-    requires listed { Contains (list_at lists.now.interner node) branch.now.position }
+fn entry_after(table: &Table, setting: &Setting, only: &OnlyShift, vertex: Vertex) -> Entry
+    requires right { IsRightSoFar setting.now.ground.now setting.now.lists.now table.now }
+    requires branch { IsBranch setting.now.ground.now.rules setting.now.lists.now.afters.items only.now.branch.position only.now.branch }
+    requires direction { only.now.branch.direction ≡ Some only.now.direction }
+    requires may_end { only.now.may_end ≡ may_end_at setting.now.lists.now.interner only.now.node }
+    requires vertex { vertex < length setting.now.ground.now.board.first }
+    requires listed { Contains (list_at setting.now.lists.now.interner only.now.node) only.now.branch.position }
     ensures within { IsWithin (length table.now.targets.items) result }
-    ensures sound { IsSoundEntry ground.now (list_at lists.now.interner node) (may_end_at lists.now.interner node) vertex table.now result }
-    ensures told { RecordsStepAt ground.now lists.now table.now result vertex branch.now.position }
-    ensures ends { IsTrue (may_end_at lists.now.interner node) → IsTrue result.ends }
+    ensures sound { IsSoundEntry setting.now.ground.now (list_at setting.now.lists.now.interner only.now.node) (may_end_at setting.now.lists.now.interner only.now.node) vertex table.now result }
+    ensures told { RecordsStepAt setting.now.ground.now setting.now.lists.now table.now result vertex only.now.branch.position }
+    ensures ends { IsTrue (may_end_at setting.now.lists.now.interner only.now.node) → IsTrue result.ends }
 {
-    let Some(to) = ground.step(vertex, direction) else {
+    let Some(to) = setting.ground.step(vertex, only.direction) else {
         return Entry {
             start: 0,
             many: 0,
-            ends: may_end,
+            ends: only.may_end,
         };
     };
-    let beyond = table.entry_there(branch.after, to);
-    let ends = beyond.ends || may_end;
+    let beyond = table.entry_there(only.branch.after, to);
+    let ends = beyond.ends || only.may_end;
     Entry {
         start: beyond.start,
         many: beyond.many,
@@ -94,27 +92,19 @@ fn only_of(lists: &Lists, ground: &Ground<'_>, node: usize) -> Option<Branch>
 }
 
 /// Fills the entries of a node from which one shift leads on: they share the targets after it.
-fn share_node(
-    table: &mut Table,
-    lists: &Lists,
-    ground: &Ground<'_>,
-    node: usize,
-    branch: &Branch,
-    direction: Direction,
-)
-    requires at { IsRightAt ground.now lists.now table.old node }
-    requires only { IsOnly (list_at lists.now.interner node) branch.now.position }
-    requires branch { IsBranch ground.now.rules lists.now.afters.items branch.now.position branch.now }
-    requires direction { branch.now.direction ≡ Some direction }
-    ensures { FillsUpTo ground.now lists.now table.old table.new node (length ground.now.board.first) }
+fn share_node(table: &mut Table, lists: &Lists, ground: &Ground<'_>, only: &OnlyShift)
+    requires at { IsRightAt ground.now lists.now table.old only.now.node }
+    requires only { IsOnly (list_at lists.now.interner only.now.node) only.now.branch.position }
+    requires branch { IsBranch ground.now.rules lists.now.afters.items only.now.branch.position only.now.branch }
+    requires direction { only.now.branch.direction ≡ Some only.now.direction }
+    requires may_end { only.now.may_end ≡ may_end_at lists.now.interner only.now.node }
+    ensures { FillsUpTo ground.now lists.now table.old table.new only.now.node (length ground.now.board.first) }
 {
-    let may_end = lists.interner.may_end(node);
+    let setting = Setting { lists, ground };
     for index in 0..ground.vertices() {
         let vertex = index as Vertex;
-        let entry = entry_after(
-            table, lists, ground, node, vertex, branch, direction, may_end,
-        );
-        table.share(node, vertex, entry);
+        let entry = entry_after(table, &setting, only, vertex);
+        table.share(only.node, vertex, entry);
     }
 }
 
@@ -122,23 +112,21 @@ fn share_node(
 #[inline(always)]
 fn place_one(
     table: &mut Table,
-    lists: &Lists,
-    ground: &Ground<'_>,
-    node: usize,
-    vertex: Vertex,
+    setting: &Setting,
+    spot: Spot,
     position: Position,
     may_end: bool,
 ) -> Filled
-    requires at { IsRightAt ground.now lists.now table.old node }
-    requires vertex { vertex < length ground.now.board.first }
-    requires only { IsOnly (list_at lists.now.interner node) position }
-    requires plain { ¬ IsShiftAt ground.now.rules position }
-    requires may_end { may_end ≡ may_end_at lists.now.interner node }
-    ensures { OnOk result (FillsOne ground.now lists.now table.old table.new node vertex) }
+    requires at { IsRightAt setting.now.ground.now setting.now.lists.now table.old spot.node }
+    requires vertex { spot.vertex < length setting.now.ground.now.board.first }
+    requires only { IsOnly (list_at setting.now.lists.now.interner spot.node) position }
+    requires plain { ¬ IsShiftAt setting.now.ground.now.rules position }
+    requires may_end { may_end ≡ may_end_at setting.now.lists.now.interner spot.node }
+    ensures { OnOk result (FillsOne setting.now.ground.now setting.now.lists.now table.old table.new spot.node spot.vertex) }
 {
     let start = table.targets.len();
-    table.add(start, unit(position, vertex))?;
-    table.put(node, vertex, start, may_end)?;
+    table.add(start, unit(position, spot.vertex))?;
+    table.put(spot.node, spot.vertex, start, may_end)?;
     Ok(())
 }
 
@@ -155,17 +143,11 @@ fn place_node(
     requires plain { ¬ IsShiftAt ground.now.rules position }
     ensures { OnOk result (FillsUpTo ground.now lists.now table.old table.new node (length ground.now.board.first)) }
 {
+    let setting = Setting { lists, ground };
     let may_end = lists.interner.may_end(node);
-    for vertex in 0..ground.vertices() {
-        place_one(
-            table,
-            lists,
-            ground,
-            node,
-            vertex as Vertex,
-            position,
-            may_end,
-        )?;
+    for index in 0..ground.vertices() {
+        let vertex = index as Vertex;
+        place_one(table, &setting, Spot { node, vertex }, position, may_end)?;
     }
     Ok(())
 }
@@ -175,10 +157,12 @@ fn fill_forwards(table: &mut Table, lists: &Lists, ground: &Ground<'_>, node: us
     requires { IsRightAt ground.now lists.now table.old node }
     ensures { OnOk result (FillsUpTo ground.now lists.now table.old table.new node (length ground.now.board.first)) }
 {
+    let setting = Setting { lists, ground };
     let list = lists.branches(node);
     let may_end = lists.interner.may_end(node);
-    for vertex in 0..ground.vertices() {
-        fill_one(table, lists, ground, node, vertex as Vertex, list, may_end)?;
+    for index in 0..ground.vertices() {
+        let vertex = index as Vertex;
+        fill_one(table, &setting, Spot { node, vertex }, list, may_end)?;
     }
     Ok(())
 }
@@ -189,12 +173,13 @@ fn fill_backwards(table: &mut Table, lists: &Lists, ground: &Ground<'_>, node: u
     requires { IsRightAt ground.now lists.now table.old node }
     ensures { OnOk result (FillsDownTo ground.now lists.now table.old table.new node (length ground.now.board.first)) }
 {
+    let setting = Setting { lists, ground };
     let list = lists.branches(node);
     let may_end = lists.interner.may_end(node);
     let vertices = ground.vertices();
     for index in 0..vertices {
         let vertex = (vertices - 1 - index) as Vertex;
-        fill_one(table, lists, ground, node, vertex, list, may_end)?;
+        fill_one(table, &setting, Spot { node, vertex }, list, may_end)?;
     }
     Ok(())
 }
@@ -210,7 +195,13 @@ fn fill_once(table: &mut Table, lists: &Lists, ground: &Ground<'_>, node: usize)
     let Some(direction) = branch.direction else {
         return place_node(table, lists, ground, node, branch.position);
     };
-    share_node(table, lists, ground, node, &branch, direction);
+    let only = OnlyShift {
+        node,
+        branch,
+        direction,
+        may_end: lists.interner.may_end(node),
+    };
+    share_node(table, lists, ground, &only);
     Ok(())
 }
 

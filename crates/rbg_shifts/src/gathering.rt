@@ -8,40 +8,37 @@ ghost use Rattle.rbg_shifts.specs.internal.Tables.{IsRightSoFar, IsGathered, Rec
 
 use crate::adding::unit;
 use crate::branches::Branch;
-use crate::ground::Ground;
-use crate::lists::Lists;
-use crate::table::Table;
-use rbg_base::{Memory, Vertex};
+use crate::setting::Setting;
+use crate::table::{Spot, Table};
+use rbg_base::Memory;
 
 /// Gathers what a step by one position leads to, after the targets before a place. Returns whether a word may end then.
 #[inline(always)]
 fn gather_one(
     table: &mut Table,
     start: usize,
-    lists: &Lists,
-    ground: &Ground<'_>,
-    node: usize,
-    vertex: Vertex,
+    setting: &Setting,
+    spot: Spot,
     branch: &Branch,
 ) -> Result<bool, Memory>
-    requires right { IsRightSoFar ground.now lists.now table.old }
+    requires right { IsRightSoFar setting.now.ground.now setting.now.lists.now table.old }
     requires start { start ≤ length table.old.targets.items }
     requires within { All (IsWithin start) table.old.entries.items }
-    requires vertex { vertex < length ground.now.board.first }
-    requires branch { IsBranch ground.now.rules lists.now.afters.items branch.now.position branch.now }
-    requires listed { Contains (list_at lists.now.interner node) branch.now.position }
-    requires gathered { IsGathered ground.now lists.now table.old start node vertex }
+    requires vertex { spot.vertex < length setting.now.ground.now.board.first }
+    requires branch { IsBranch setting.now.ground.now.rules setting.now.lists.now.afters.items branch.now.position branch.now }
+    requires listed { Contains (list_at setting.now.lists.now.interner spot.node) branch.now.position }
+    requires gathered { IsGathered setting.now.ground.now setting.now.lists.now table.old start spot.node spot.vertex }
     ensures grows { OnOk result (Grows start table.old table.new) }
-    ensures gathered { OnOk result (IsGathered ground.now lists.now table.new start node vertex) }
-    ensures ends { IfOk result (λ ends. IsTrue ends → EndsBy ground.now (list_at lists.now.interner node) (may_end_at lists.now.interner node) vertex) }
+    ensures gathered { OnOk result (IsGathered setting.now.ground.now setting.now.lists.now table.new start spot.node spot.vertex) }
+    ensures ends { IfOk result (λ ends. IsTrue ends → EndsBy setting.now.ground.now (list_at setting.now.lists.now.interner spot.node) (may_end_at setting.now.lists.now.interner spot.node) spot.vertex) }
     ensures keeps { OnOk result (KeepsRecorded start table.old table.new) }
-    ensures told { IfOk result (λ ends. RecordsStepFrom ground.now lists.now table.new start ends vertex branch.now.position) }
+    ensures told { IfOk result (λ ends. RecordsStepFrom setting.now.ground.now setting.now.lists.now table.new start ends spot.vertex branch.now.position) }
 {
     let Some(direction) = branch.direction else {
-        table.add(start, unit(branch.position, vertex))?;
+        table.add(start, unit(branch.position, spot.vertex))?;
         return Ok(false);
     };
-    let Some(to) = ground.step(vertex, direction) else {
+    let Some(to) = setting.ground.step(spot.vertex, direction) else {
         return Ok(false);
     };
     let entry = table.entry_there(branch.after, to);
@@ -57,28 +54,25 @@ fn gather_one(
 #[inline(always)]
 pub(crate) fn gather(
     table: &mut Table,
-    start: usize,
-    lists: &Lists,
-    ground: &Ground<'_>,
-    node: usize,
+    setting: &Setting,
+    spot: Spot,
     list: &[Branch],
     may_end: bool,
-    vertex: Vertex,
 ) -> Result<bool, Memory>
-    requires right { IsRightSoFar ground.now lists.now table.old }
-    requires start { start ≡ length table.old.targets.items }
-    requires node { node < length lists.now.interner.nodes.items }
-    requires list { list.now ≡ branches_at lists.now node }
-    requires may_end { may_end ≡ may_end_at lists.now.interner node }
-    requires vertex { vertex < length ground.now.board.first }
-    ensures grows { OnOk result (Grows start table.old table.new) }
-    ensures gathered { OnOk result (IsGathered ground.now lists.now table.new start node vertex) }
-    ensures ends { IfOk result (λ ends. IsTrue ends → EndsBy ground.now (list_at lists.now.interner node) (may_end_at lists.now.interner node) vertex) }
-    ensures whole { IfOk result (λ ends. IsWholeFrom ground.now lists.now table.new start node vertex ends) }
+    requires right { IsRightSoFar setting.now.ground.now setting.now.lists.now table.old }
+    requires node { spot.node < length setting.now.lists.now.interner.nodes.items }
+    requires list { list.now ≡ branches_at setting.now.lists.now spot.node }
+    requires may_end { may_end ≡ may_end_at setting.now.lists.now.interner spot.node }
+    requires vertex { spot.vertex < length setting.now.ground.now.board.first }
+    ensures grows { OnOk result (Grows (length table.old.targets.items) table.old table.new) }
+    ensures gathered { OnOk result (IsGathered setting.now.ground.now setting.now.lists.now table.new (length table.old.targets.items) spot.node spot.vertex) }
+    ensures ends { IfOk result (λ ends. IsTrue ends → EndsBy setting.now.ground.now (list_at setting.now.lists.now.interner spot.node) (may_end_at setting.now.lists.now.interner spot.node) spot.vertex) }
+    ensures whole { IfOk result (λ ends. IsWholeFrom setting.now.ground.now setting.now.lists.now table.new (length table.old.targets.items) spot.node spot.vertex ends) }
 {
+    let start = table.targets.len();
     let mut ends = may_end;
     for branch in list {
-        let then = gather_one(table, start, lists, ground, node, vertex, branch)?;
+        let then = gather_one(table, start, setting, spot, branch)?;
         ends = ends || then;
     }
     Ok(ends)

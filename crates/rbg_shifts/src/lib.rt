@@ -15,6 +15,7 @@ mod lists;
 mod making;
 mod origin;
 mod rounds;
+mod setting;
 mod shifts;
 mod table;
 mod target;

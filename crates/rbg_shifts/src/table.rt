@@ -19,6 +19,13 @@ pub(crate) struct Entry {
     pub ends: bool,
 }
 
+/// Where an entry is: its node and its vertex.
+#[derive(Clone, Copy, Drop)]
+pub(crate) struct Spot {
+    pub node: usize,
+    pub vertex: Vertex,
+}
+
 /// An entry for each node and each vertex, node by node, with targets. Entries may share targets.
 #[derive(Drop)]
 pub(crate) struct Table {

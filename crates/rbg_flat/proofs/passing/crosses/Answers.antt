@@ -1,4 +1,4 @@
-use Rattle.std.proofs.Common.{true, false, refl, sym, ◌∙◌, ◌≡◌}
+use Rattle.std.proofs.Common.{true, false, refl, sym, ◌≡◌}
 use Rattle.rbg_flat.proofs.Crossings.{edge_holds, holds_edge}
 use Rattle.rbg_flat.proofs.passing.crosses.Goals as goal
 

@@ -3,4 +3,4 @@ use Rattle.rbg_shifts.specs.internal.Tables.{FillsDownTo}
 use Rattle.rbg_shifts.proofs.filling.fill_backwards.Given as goal
 
 abbrev pub invariant-loop-index : goal.invariant-loop-index
-invariant-loop-index l = FillsDownTo l.ground l.lists l.fn.table l.table l.node l.index
+invariant-loop-index l = FillsDownTo l.fn.ground l.lists l.fn.table l.table l.node l.index

@@ -2,5 +2,5 @@
 use Rattle.rbg_shifts.specs.internal.Tables.{FillsUpTo}
 use Rattle.rbg_shifts.proofs.filling.place_node.Given as goal
 
-abbrev pub invariant-loop-vertex : goal.invariant-loop-vertex
-invariant-loop-vertex l = FillsUpTo l.ground l.lists l.fn.table l.table l.node l.vertex
+abbrev pub invariant-loop-index : goal.invariant-loop-index
+invariant-loop-index l = FillsUpTo l.fn.ground l.lists l.fn.table l.table l.node l.index

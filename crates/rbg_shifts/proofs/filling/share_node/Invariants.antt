@@ -3,4 +3,4 @@ use Rattle.rbg_shifts.specs.internal.Tables.{FillsUpTo}
 use Rattle.rbg_shifts.proofs.filling.share_node.Given as goal
 
 abbrev pub invariant-loop-index : goal.invariant-loop-index
-invariant-loop-index l = FillsUpTo l.ground l.lists l.fn.table l.table l.node l.index
+invariant-loop-index l = FillsUpTo l.fn.ground l.lists l.fn.table l.table l.only.node l.index

@@ -4,7 +4,7 @@ use Rattle.rbg_flat.proofs.Wordwise.{meets_bit, ends_bit, meets_all, ends_all}
 use Rattle.rbg_flat.proofs.flat.Flat.leap_word.Goals as goal
 
 pub leap-requires-clause-stands : goal.leap-requires-clause-stands
-leap-requires-clause-stands c = goes_on c.args.setting.now.game.now.rules c.args.position c.action-action.result.now c.action-action.ensures
+leap-requires-clause-stands c = goes_on c.args.setting.now.game.now.rules c.args.word.position c.action-action.result.now c.action-action.ensures
 
 pub loop-rest-preserved : goal.loop-rest-preserved
 loop-rest-preserved c =
@@ -18,8 +18,8 @@ loop-rest-preserved c =
       rest_in = λ b there. is.rest_in b (out.only b there);
       led = record {
         sized = led.sized;
-        met = meets_bit leaping game c.args.position c.args.column c.args.word opens c.loop-rest.rest c.lowest-bit.result c.without-rest.result c.lowest-bit.ensures.small set out.gone out.only out.others c.args.self.now.sets c.loop-rest.self.sets c.leap.new.self.sets is.led.met led.met;
-        ends = ends_bit leaping game c.args.position c.args.column c.args.word opens c.loop-rest.rest c.lowest-bit.result c.without-rest.result c.lowest-bit.ensures.small set out.gone out.only out.others c.args.self.now.ends c.loop-rest.self.ends c.leap.new.self.ends is.led.ends led.ends;
+        met = meets_bit leaping game c.args.word.position c.args.word.column c.args.word.bits opens c.loop-rest.rest c.lowest-bit.result c.without-rest.result c.lowest-bit.ensures.small set out.gone out.only out.others c.args.self.now.sets c.loop-rest.self.sets c.leap.new.self.sets is.led.met led.met;
+        ends = ends_bit leaping game c.args.word.position c.args.word.column c.args.word.bits opens c.loop-rest.rest c.lowest-bit.result c.without-rest.result c.lowest-bit.ensures.small set out.gone out.only out.others c.args.self.now.ends c.loop-rest.self.ends c.leap.new.self.ends is.led.ends led.ends;
         on = λ on. led.on (is.led.on on);
       };
     }
@@ -31,7 +31,7 @@ returns c =
     let led = c.loop-rest.invariant.led in
     record {
       sized = led.sized;
-      met = meets_all leaping game c.args.position c.args.column c.args.word opens c.loop-rest.rest c.loop-rest-test.false c.args.self.now.sets c.loop-rest.self.sets led.met;
-      ends = ends_all leaping game c.args.position c.args.column c.args.word opens c.loop-rest.rest c.loop-rest-test.false c.args.self.now.ends c.loop-rest.self.ends led.ends;
+      met = meets_all leaping game c.args.word.position c.args.word.column c.args.word.bits opens c.loop-rest.rest c.loop-rest-test.false c.args.self.now.sets c.loop-rest.self.sets led.met;
+      ends = ends_all leaping game c.args.word.position c.args.word.column c.args.word.bits opens c.loop-rest.rest c.loop-rest-test.false c.args.self.now.ends c.loop-rest.self.ends led.ends;
       on = led.on;
     }

@@ -14,8 +14,8 @@ loop-rest-preserved c =
       rest_in = λ b there. is.rest_in b (out.only b there);
       led = record {
         sized = led.sized;
-        met = meets_bit stepping game c.args.position c.args.column c.args.word opens c.loop-rest.rest c.lowest-bit.result c.without-rest.result c.lowest-bit.ensures.small set out.gone out.only out.others c.args.self.now.sets c.loop-rest.self.sets c.step_from.new.self.sets is.led.met led.met;
-        ends = ends_bit stepping game c.args.position c.args.column c.args.word opens c.loop-rest.rest c.lowest-bit.result c.without-rest.result c.lowest-bit.ensures.small set out.gone out.only out.others c.args.self.now.ends c.loop-rest.self.ends c.step_from.new.self.ends is.led.ends led.ends;
+        met = meets_bit stepping game c.args.word.position c.args.word.column c.args.word.bits opens c.loop-rest.rest c.lowest-bit.result c.without-rest.result c.lowest-bit.ensures.small set out.gone out.only out.others c.args.self.now.sets c.loop-rest.self.sets c.step_from.new.self.sets is.led.met led.met;
+        ends = ends_bit stepping game c.args.word.position c.args.word.column c.args.word.bits opens c.loop-rest.rest c.lowest-bit.result c.without-rest.result c.lowest-bit.ensures.small set out.gone out.only out.others c.args.self.now.ends c.loop-rest.self.ends c.step_from.new.self.ends is.led.ends led.ends;
         on = λ on. led.on (is.led.on on);
       };
     }
@@ -27,7 +27,7 @@ returns c =
     let led = c.loop-rest.invariant.led in
     record {
       sized = led.sized;
-      met = meets_all stepping game c.args.position c.args.column c.args.word opens c.loop-rest.rest c.loop-rest-test.false c.args.self.now.sets c.loop-rest.self.sets led.met;
-      ends = ends_all stepping game c.args.position c.args.column c.args.word opens c.loop-rest.rest c.loop-rest-test.false c.args.self.now.ends c.loop-rest.self.ends led.ends;
+      met = meets_all stepping game c.args.word.position c.args.word.column c.args.word.bits opens c.loop-rest.rest c.loop-rest-test.false c.args.self.now.sets c.loop-rest.self.sets led.met;
+      ends = ends_all stepping game c.args.word.position c.args.word.column c.args.word.bits opens c.loop-rest.rest c.loop-rest-test.false c.args.self.now.ends c.loop-rest.self.ends led.ends;
       on = led.on;
     }

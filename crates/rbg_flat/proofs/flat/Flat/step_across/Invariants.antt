@@ -5,8 +5,8 @@ use Rattle.rbg_flat.proofs.flat.Flat.step_across.Given as goal
 
 abbrev pub invariant-loop-rest : goal.invariant-loop-rest
 invariant-loop-rest l = record {
-  rest_in : (b : ℕ) → bit_at l.rest b ≡ 1 → bit_at l.word b ≡ 1;
-  led : LeadsOn l.setting l.fn.self l.self (LeadsPast stepping l.setting.game.now l.position l.column l.word l.rest) (EndsPast stepping l.setting.game.now l.position l.column l.word l.rest);
+  rest_in : (b : ℕ) → bit_at l.rest b ≡ 1 → bit_at l.word.bits b ≡ 1;
+  led : LeadsOn l.setting l.fn.self l.self (LeadsPast stepping l.setting.game.now l.word.position l.word.column l.word.bits l.rest) (EndsPast stepping l.setting.game.now l.word.position l.word.column l.word.bits l.rest);
 }
 
 abbrev pub decreases-loop-rest : goal.decreases-loop-rest
