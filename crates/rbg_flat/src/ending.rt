@@ -1,4 +1,5 @@
-//! Patterns in which no modifier and no pattern comes next, as is seen at once or by a walk.
+//! Dead ends: patterns in which no modifier and no pattern comes next, as is seen at once or by a walk. A dead end may be
+//! valid, since a word may end with shifts, ons and comparisons alone.
 ghost use Rattle.std.specs.Prelude.{ℕ, ◌<◌, length, All, IfSome, IsTrue};
 ghost use Rattle.rbg_rules.specs.Meaning.{IsGame, IsStart, inside, IsStateOf, beginning};
 ghost use Rattle.rbg_flat.specs.Chains.{at_vertex};

@@ -73,7 +73,7 @@ fn count(word: u64) -> usize
     }
 }
 
-/// Counts the vertices that were met at a place, and puts them after what was found where they are kept.
+/// Counts the vertices that were met at a place. If they are kept, it adds them to what was found.
 #[inline(always)]
 pub(crate) fn gather_place(
     found: &mut Modifiers,

@@ -1,4 +1,4 @@
-//! How sets are led on by leaps.
+//! How sets are led on: by leaps to their targets, or from a whole word to the same vertices.
 ghost use Rattle.std.specs.Prelude.{◌≡◌, ◌+◌, ◌*◌, ◌<◌, length, All, IsTrue};
 ghost use Rattle.rbg_shifts.specs.Limits.{row_words};
 ghost use Rattle.rbg_flat.specs.internal.Sets.{Meets, IsInWord};

@@ -1,4 +1,4 @@
-//! Patterns that are dead ends, asked at all vertices of a word of a flat part.
+//! Patterns that are dead ends, whether they are valid or not, asked at all vertices of a word of a flat part.
 ghost use Rattle.std.specs.Prelude.{◌≡◌, ℕ, ◌*◌, ◌+◌, ◌/◌, ◌<◌, ◌≤◌, ◌↔◌, ◌⊎◌, length, Bool, false, IfNone, IfSome, IsTrue, Ok};
 ghost use Rattle.std.specs.Int.{bit_at};
 ghost use Rattle.rbg_rules.specs.Meaning.{Applies, IsPatternAt, IsStateOf, Start, beginning, inside, pattern};

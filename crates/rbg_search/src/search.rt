@@ -120,7 +120,8 @@ impl<'a, S: Steps> Search<'a, S> {
         Search::by_rules(alloc, rules, budget, buffers)
     }
 
-    /// As `new`, by rules that may have the paths of the game: then flat parts are found by sets.
+    /// As `new`, by rules that may have the paths of the game. If they have none, the search makes paths of its own at its
+    /// first question.
     #[inline(always)]
     pub fn by_rules(
         alloc: Global,
