@@ -23,7 +23,11 @@ pub fn serve_match<F: Files, N: Network>(
 {
     let played = match serving.keeping.resume {
         Some(log) => {
-            let resumed = ResumedMatch { text, log, serving };
+            let resumed = ResumedMatch {
+                text,
+                log,
+                serving: &*serving,
+            };
             resume_text(alloc, resumed, files, network)
         }
         None => serve_text(alloc, text, network, serving),

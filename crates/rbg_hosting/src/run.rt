@@ -90,7 +90,7 @@ fn serve_texts<F: Files, N: Network>(
             let resumed = ResumedHall {
                 descriptions,
                 log,
-                serving,
+                serving: &*serving,
             };
             resume_hall(alloc, resumed, files, network, archive)
         }

@@ -85,7 +85,7 @@ pub(crate) fn play<N: Network, A: Archive>(
     let going = Going {
         pasts: pasts.as_slice(),
         players: players.as_slice(),
-        serving,
+        serving: &*serving,
     };
     let served = go_on(alloc, network, &mut recorded, &mut out, going);
     tell_ends(network, recorded.hall(), matches, &served, serving);
