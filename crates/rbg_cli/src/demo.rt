@@ -11,7 +11,7 @@ use crate::fault::Fault;
 use crate::inputs::read_description;
 use rbg_console::{Files, Status};
 use rbg_game::load;
-use rbg_hosting::{NOTHING_KEPT, Serving, serve_lines};
+use rbg_hosting::{NOTHING_KEPT, NewMatch, Serving, serve_lines};
 use rbg_match::Match;
 use rbg_network::{Hosting, Network};
 use rbg_record::write_record_1;
@@ -65,15 +65,12 @@ fn demo_text<N: Network>(
             quiet: true,
         },
     };
-    let played = serve_lines(
-        alloc,
+    let new_match = NewMatch {
         game,
         text,
-        network,
-        &serving,
-        None::<N::Log>,
-        lines.as_mut_slice(),
-    );
+        log: None::<N::Log>,
+    };
+    let played = serve_lines(alloc, new_match, network, &serving, lines.as_mut_slice());
     tell_who_gave_up(network, lines.as_slice());
     Ok(played?)
 }

@@ -4,7 +4,8 @@ use Rattle.rbg_wire.specs.declared.message.Reason.TheVariants.{OutOfTurn, NoSeat
 use Rattle.rbg_wire.proofs.Common.{Item, whole_item}
 use Rattle.rbg_rules.specs.Meaning.{IsNumbered, AbstractGame}
 use Rattle.rbg_match.specs.declared.config.Config.{Config}
-use Rattle.rbg_match.proofs.Common.{bytes_for, AbstractEvent, piece, end_of_stream, message_limit, MatchState, seats_of, Transcript}
+use Rattle.rbg_match.proofs.Common.{bytes_for, message_limit, MatchState, seats_of, Transcript}
+use Rattle.rbg_script.specs.Events.{AbstractEvent, piece, end_of_stream}
 use Rattle.rbg_match.proofs.OneTranscriptLemmas.{one_transcript}
 use Rattle.rbg_hall.specs.TableLaws.{Beginning, ChooseAlike, Hands, HandsEach, HoldsTranscript, OneTable, TakesLast, late_refusal, ticks, stirs, plays, goes, late, stirs_not, says_not, goes_not}
 use Rattle.rbg_hall.specs.TableLaws as laws

@@ -6,7 +6,8 @@ use Rattle.rbg_wire.specs.Streams.{incomplete, cut}
 use Rattle.rbg_hall.proofs.TableCommon.{Beginning, HoldsTranscript, lines_in_all, TableState, OwnEvent, joins, Telling, bytes_to}
 use Rattle.rbg_hall.proofs.Holding.{run_holds_transcript}
 use Rattle.rbg_hall.proofs.Places.{set_cases}
-use Rattle.rbg_hall.proofs.Common.{asks_for, concerning, AbstractHallEvent, AbstractTable, HallState, BegunMatchesHoldTranscripts, HoldsMatch, early_refusal, stream_of, first_request, own, is_for}
+use Rattle.rbg_hall.proofs.Common.{asks_for, concerning, AbstractTable, HallState, BegunMatchesHoldTranscripts, HoldsMatch, early_refusal, stream_of, first_request, own, is_for}
+use Rattle.rbg_script.specs.Events.{AbstractEvent}
 use Rattle.rbg_hall.proofs.Apart.{dropped_sent, first_true, nothing_asked, others_are_unheard, second_true}
 use Rattle.rbg_hall.proofs.Early.{JoinsFirst, early_told, joins_before, lacks_early, nothing_before, own_joins}
 use Rattle.rbg_hall.proofs.Growing.{by_test}
@@ -18,7 +19,7 @@ same_table : {a b : TableState} → Some a ≡ Some b → a ≡ b
 same_table is = cc
 
 -- a table hears nothing of a line that doesn't ask for it, or isn't there
-pub unasked_lacks : (tables table line : ℕ) (events : List AbstractHallEvent) → asks_for tables table line events ≡ false → Lacks line (own tables table events)
+pub unasked_lacks : (tables table line : ℕ) (events : List AbstractEvent) → asks_for tables table line events ≡ false → Lacks line (own tables table events)
 unasked_lacks tables table line events unasked =
     subst (Lacks line) (others_are_unheard tables table events)
     (own_lacks tables table line (concerning tables table events)
@@ -39,7 +40,7 @@ early_so {heard = heard} beginning index line first there =
     one : {a b : ℕ} → Some a ≡ Some b → a ≡ b
     one is = cc
 
-module _ {starts : List AbstractTable} {events : List AbstractHallEvent} {state : HallState} {told : List Telling} (stands : Stands starts events state told) (index line : ℕ) where
+module _ {starts : List AbstractTable} {events : List AbstractEvent} {state : HallState} {told : List Telling} (stands : Stands starts events state told) (index line : ℕ) where
   -- what a line has that asks for a table
   pub told_there : asks_for (length starts) (1 + index) line events ≡ true → bytes_to line told ≡ bytes_to line (get_or stands.tolds index [])
   told_there asked =

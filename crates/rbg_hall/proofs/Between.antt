@@ -5,7 +5,7 @@ use Rattle.rbg_wire.specs.Inboxes.{item_of}
 use Rattle.rbg_wire.specs.Streams.{Rest}
 use Rattle.rbg_match.specs.declared.arrival.Arrival.{Arrival}
 use Rattle.rbg_match.specs.declared.arrival.Arrival.TheVariants.{Plain, Item}
-use Rattle.rbg_match.specs.declared.event.Event.TheVariants.{Piece, Ended, Tick}
+use Rattle.rbg_script.specs.declared.event.Event.TheVariants.{Piece, Ended, Tick}
 use Rattle.rbg_match.specs.Arrivals.{MayCome, arrival_of}
 use Rattle.rbg_match.proofs.Arriving.{rests_of_item}
 use Rattle.rbg_rules.specs.Meaning.{AbstractGame}

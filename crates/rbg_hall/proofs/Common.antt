@@ -1,7 +1,6 @@
 -- The definitions of this crate that most proofs cite, passed on from one place. Declares nothing.
 pub use Rattle.rbg_hall.specs.Allowed.{IsAllowed, bytes_by, bytes_for}
 pub use Rattle.rbg_hall.specs.Apart.{asks_for, concerning, concerns}
-pub use Rattle.rbg_hall.specs.Events.{AbstractHallEvent, ends, event_of, sends, ticks}
 pub use Rattle.rbg_hall.specs.Failing.{HeldHall}
 pub use Rattle.rbg_hall.specs.Halls.{AbstractTable, EachHears, HallRun, HallState, HallSteps, HearsEach, begun_at, begun_of, line_at, line_beyond, lines_after, new_hall, refused_by, refused_first, refused_for, refused_in}
 pub use Rattle.rbg_hall.specs.Hearing.{HallHears}
@@ -17,7 +16,6 @@ pub use Rattle.rbg_hall.specs.Serving.{HasSeatThere, HaveAllEnded, IsServedHall,
 pub use Rattle.rbg_hall.specs.Wholes.{HasRun, IsOfHall}
 pub use Rattle.rbg_hall.specs.declared.error.HallError.{HallError}
 pub use Rattle.rbg_hall.specs.declared.error.HallError.TheVariants.{Config, Memory, Tables}
-pub use Rattle.rbg_hall.specs.declared.event.HallEvent.{HallEvent}
 pub use Rattle.rbg_hall.specs.declared.hearing.First.{First}
 pub use Rattle.rbg_hall.specs.declared.line.LinePhase.{LinePhase}
 pub use Rattle.rbg_hall.specs.declared.line.LinePhase.TheVariants.{Over}

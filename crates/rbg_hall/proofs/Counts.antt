@@ -4,7 +4,8 @@ use Rattle.std.proofs.lemmas.Bool.{true≢false, eq-eqb, ne_eqb, cases_lt}
 use Rattle.rbg_wire.proofs.Common.{join_message, message_text, Item, complete, too_long, Rest, Cut, cut}
 use Rattle.rbg_match.specs.Limits.{message_limit}
 use Rattle.rbg_hall.proofs.TableCommon.{lines_in_all, joins, arrives, says, leaves}
-use Rattle.rbg_hall.proofs.Common.{concerning, AbstractHallEvent, sends, ends, ticks, asking, line_cut, has_ended, stream_of, line_after, heard_first, heard_of, heard_of_piece, heard_of_end, own_after, own, is_request, is_for, requested}
+use Rattle.rbg_hall.proofs.Common.{concerning, asking, line_cut, has_ended, stream_of, line_after, heard_first, heard_of, heard_of_piece, heard_of_end, own_after, own, is_request, is_for, requested}
+use Rattle.rbg_script.specs.Events.{AbstractEvent, piece, end_of_stream, moment_alone}
 use Rattle.rbg_hall.proofs.Apart.{others_are_unheard}
 use Rattle.rbg_hall.proofs.Growing.{by_test, standing}
 use Rattle.rbg_hall.proofs.Requesting.{requested_within, same_text}
@@ -86,17 +87,17 @@ module _ (count count' table : ℕ) (small : count < 2 ^ 64) (small' : count' < 
   end_same line at false true c = same_end line at c.items c.rest
   end_same line at false false c = refl
 
-  same_heard : (before : List AbstractHallEvent) (event : AbstractHallEvent) → heard_of count table (λ line. line_after count line before) event ≡ heard_of count' table (λ line. line_after count' line before) event
-  same_heard before (sends line at bytes) = piece_same line at (has_ended line before) (nat_lt line lines_in_all) (stream_of line before) bytes
-  same_heard before (ends line at) = end_same line at (has_ended line before) (nat_lt line lines_in_all) (stream_of line before)
-  same_heard before (ticks at) = refl
+  same_heard : (before : List AbstractEvent) (event : AbstractEvent) → heard_of count table (λ line. line_after count line before) event ≡ heard_of count' table (λ line. line_after count' line before) event
+  same_heard before (piece line at bytes) = piece_same line at (has_ended line before) (nat_lt line lines_in_all) (stream_of line before) bytes
+  same_heard before (end_of_stream line at) = end_same line at (has_ended line before) (nat_lt line lines_in_all) (stream_of line before)
+  same_heard before (moment_alone at) = refl
 
-  same_beyond : (before events : List AbstractHallEvent) → own_after count table before events ≡ own_after count' table before events
+  same_beyond : (before events : List AbstractEvent) → own_after count table before events ≡ own_after count' table before events
   same_beyond before [] = refl
   same_beyond before (event ∷ events) = λ i. same_heard before event i ++ same_beyond (before ++ event ∷ []) events i
 
   -- two lists of events that agree on what concerns a table are the same to it
-  pub same_own : (events elsewhere : List AbstractHallEvent) → concerning count table events ≡ concerning count' table elsewhere → own count table events ≡ own count' table elsewhere
+  pub same_own : (events elsewhere : List AbstractEvent) → concerning count table events ≡ concerning count' table elsewhere → own count table events ≡ own count' table elsewhere
   same_own events elsewhere same =
       sym (others_are_unheard count table events)
       ∙ same_beyond [] (concerning count table events)

@@ -6,15 +6,15 @@ use Rattle.rbg_wire.specs.declared.message.Reason.TheVariants.{OutOfTurn}
 use Rattle.rbg_wire.proofs.Common.{refusal_message, spelling, Item, Rest, Cut, cut}
 use Rattle.rbg_rules.specs.Meaning.{AbstractGame}
 use Rattle.rbg_match.specs.declared.config.Config.{Config}
-use Rattle.rbg_match.proofs.Common.{AbstractEvent, message_limit, MatchState}
+use Rattle.rbg_match.proofs.Common.{message_limit, MatchState}
+use Rattle.rbg_script.specs.Events.{AbstractEvent, piece, end_of_stream, moment_alone}
 use Rattle.rbg_hall.proofs.TableCommon.{lines_in_all, TableState, TableRun, OwnEvent, clock, joins, arrives, says, leaves, Plays, Hears, waits, ticks, sits, begins, is_full, comes_late, stays, waits_too, stirs, is_early, plays, frees, goes, is_moment_for_none, is_unheard, goes_unheard, SitsAt, Telling, bytes_to, telling}
 use Rattle.rbg_hall.specs.Tables as tables
 use Rattle.rbg_hall.proofs.Alike.{waited_before}
 use Rattle.rbg_hall.proofs.Places.{set_cases}
 use Rattle.rbg_hall.proofs.Seats.{SitsNowhere}
 use Rattle.rbg_hall.proofs.Telling.{bytes_to-append, bytes_to-other}
-use Rattle.rbg_hall.proofs.Common.{AbstractHallEvent, sends, ends, early_refusal, HallLine, silent, asks, over, asking, line_cut, has_ended, stream_of, line_after, first_request, heard_first, heard_of, heard_of_piece, heard_of_end, own_after, own, requested, is_for}
-use Rattle.rbg_hall.specs.Events as events
+use Rattle.rbg_hall.proofs.Common.{early_refusal, HallLine, silent, asks, over, asking, line_cut, has_ended, stream_of, line_after, first_request, heard_first, heard_of, heard_of_piece, heard_of_end, own_after, own, requested, is_for}
 use Rattle.rbg_hall.proofs.Growing.{by_test, standing}
 use Rattle.rbg_hall.proofs.Owning.{is_of, Lacks, asks_in, asked_later, heard_lacks}
 use Rattle.rbg_hall.proofs.Silence.{all_unmoved}
@@ -114,10 +114,10 @@ end_heard table line other at (silent rest) = tt
 end_heard table line other at (asks asked rest) = chosen_first line (asked == table) (leaves other at ∷ []) (λ it. tt, tt)
 end_heard table line other at over = tt
 
-heard_joins : (tables table line : ℕ) (lines : ℕ → HallLine) (event : AbstractHallEvent) → JoinsFirst line (heard_of tables table lines event)
-heard_joins tables table line lines (sends other at bytes) = piece_heard tables table line other at bytes (lines other)
-heard_joins tables table line lines (ends other at) = end_heard table line other at (lines other)
-heard_joins tables table line lines (events.ticks at) = (λ it. tt, tt)
+heard_joins : (tables table line : ℕ) (lines : ℕ → HallLine) (event : AbstractEvent) → JoinsFirst line (heard_of tables table lines event)
+heard_joins tables table line lines (piece other at bytes) = piece_heard tables table line other at bytes (lines other)
+heard_joins tables table line lines (end_of_stream other at) = end_heard table line other at (lines other)
+heard_joins tables table line lines (moment_alone at) = (λ it. tt, tt)
 
 -- A line that has asked for a table doesn't join it again.
 module _ (tables table line at : ℕ) where
@@ -157,22 +157,22 @@ end_unjoined table line other at (silent rest) = tt
 end_unjoined table line other at (asks asked rest) = chosen_unjoined line (asked == table) (leaves other at ∷ []) (refl, tt)
 end_unjoined table line other at over = tt
 
-heard_unjoined : (tables table line : ℕ) (before : List AbstractHallEvent) (event : AbstractHallEvent) → asks_in tables table line before ≡ true → Unjoined line (heard_of tables table (λ one. line_after tables one before) event)
-heard_unjoined tables table line before (sends other at bytes) asked = by_test (other == line)
+heard_unjoined : (tables table line : ℕ) (before : List AbstractEvent) (event : AbstractEvent) → asks_in tables table line before ≡ true → Unjoined line (heard_of tables table (λ one. line_after tables one before) event)
+heard_unjoined tables table line before (piece other at bytes) asked = by_test (other == line)
     (λ test. subst (λ one. Unjoined line (heard_of_piece tables table (line_after tables one before) one at bytes)) (sym (eqb-true other line test))
     (piece_unjoined tables table line at (has_ended line before) (nat_lt line lines_in_all) (stream_of line before) bytes asked))
     (λ test. piece_of_other tables table line other at bytes (line_after tables other before) test)
-heard_unjoined tables table line before (ends other at) asked = end_unjoined table line other at (line_after tables other before)
-heard_unjoined tables table line before (events.ticks at) asked = (refl, tt)
+heard_unjoined tables table line before (end_of_stream other at) asked = end_unjoined table line other at (line_after tables other before)
+heard_unjoined tables table line before (moment_alone at) asked = (refl, tt)
 
-after_unjoined : (tables table line : ℕ) (before all : List AbstractHallEvent) → asks_in tables table line before ≡ true → Unjoined line (own_after tables table before all)
+after_unjoined : (tables table line : ℕ) (before all : List AbstractEvent) → asks_in tables table line before ≡ true → Unjoined line (own_after tables table before all)
 after_unjoined tables table line before [] asked = tt
 after_unjoined tables table line before (event ∷ all) asked =
     unjoined_append line (heard_of tables table (λ one. line_after tables one before) event) (own_after tables table (before ++ event ∷ []) all)
     (heard_unjoined tables table line before event asked)
     (after_unjoined tables table line (before ++ event ∷ []) all (asked_later tables table line before (event ∷ []) asked))
 
-after_joins : (tables table line : ℕ) (before all : List AbstractHallEvent) → JoinsFirst line (own_after tables table before all)
+after_joins : (tables table line : ℕ) (before all : List AbstractEvent) → JoinsFirst line (own_after tables table before all)
 after_joins tables table line before [] = tt
 after_joins tables table line before (event ∷ all) =
     let heard = heard_of tables table (λ one. line_after tables one before) event in
@@ -183,7 +183,7 @@ after_joins tables table line before (event ∷ all) =
     (λ unasked. joins_lacks line heard later (heard_lacks tables table line before event unasked) (after_joins tables table line (before ++ event ∷ []) all))
 
 -- Of each line, joining is the first that a table hears.
-pub own_joins : (tables table line : ℕ) (all : List AbstractHallEvent) → JoinsFirst line (own tables table all)
+pub own_joins : (tables table line : ℕ) (all : List AbstractEvent) → JoinsFirst line (own tables table all)
 own_joins tables table line all = after_joins tables table line [] all
 
 -- nothing is refused to a line of which nothing is heard

@@ -2,7 +2,8 @@
 use Rattle.rbg_base.proofs.Common.{◌≡◌, ℕ, zero, suc, ◌+◌, ◌<◌, ◌^◌, Bool, List, [], ◌∷◌, ◌++◌, length, take, Option, Some, None, is_none, refl, sym, ap, ◌∙◌, subst, append_assoc, IfErr, IsErrAnd, IsErrOf, OnErr, OnOk, Result, Ok, Err, take-append-add, none-some, IfErr-at_err}
 use Rattle.rbg_game.specs.Loading.{Loads}
 use Rattle.rbg_match.specs.declared.config.Config.{Config}
-use Rattle.rbg_match.proofs.Common.{AbstractEvent, MatchState}
+use Rattle.rbg_match.proofs.Common.{MatchState}
+use Rattle.rbg_script.specs.Events.{AbstractEvent}
 use Rattle.rbg_hall.proofs.TableCommon.{HearsFor, TableState, OwnEvent, Plays, Hears, waits, ticks, sits, begins, is_full, comes_late, stays, waits_too, stirs, is_early, plays, frees, goes, is_moment_for_none, is_unheard, goes_unheard, Telling}
 use Rattle.rbg_hall.proofs.Seats.{one_differ}
 use Rattle.rbg_serving.specs.declared.keeping.WriteError.{WriteError}

@@ -10,7 +10,8 @@ use Rattle.rbg_hall.proofs.TableCommon.{lines_in_all, TableState, TableRun, OwnE
 use Rattle.rbg_hall.specs.Tables as tables
 use Rattle.rbg_hall.proofs.Places.{same_or_other}
 use Rattle.rbg_hall.proofs.Telling.{bytes_to-append, bytes_to-same, bytes_to-other}
-use Rattle.rbg_hall.proofs.Common.{AbstractHallEvent, sends, ends, ticks, AbstractTable, HallState, new_hall, line_at, line_beyond, lines_after, refused_for, refused_first, refused_in, refused_by, HearsEach, EachHears, HallSteps, HallRun, HallLine, silent, asks, over, asking, line_cut, sent_by, has_ended, stream_of, line_after, first_request, heard_of, heard_of_piece, heard_of_end, own, requested, is_for}
+use Rattle.rbg_hall.proofs.Common.{AbstractTable, HallState, new_hall, line_at, line_beyond, lines_after, refused_for, refused_first, refused_in, refused_by, HearsEach, EachHears, HallSteps, HallRun, HallLine, silent, asks, over, asking, line_cut, sent_by, has_ended, stream_of, line_after, first_request, heard_of, heard_of_piece, heard_of_end, own, requested, is_for}
+use Rattle.rbg_script.specs.Events.{AbstractEvent, piece, end_of_stream, moment_alone}
 use Rattle.rbg_hall.specs.Halls as halls
 use Rattle.rbg_hall.proofs.Growing.{by_test, brings, brings_own, brings_other, sent_more, standing, line_sends, line_ends, other_sends, other_ends, clock_ticks}
 use Rattle.rbg_hall.proofs.Owning.{own_more, asks_in, asked_later, own_lacks}
@@ -151,7 +152,7 @@ told_by tolds line (Some table) = bytes_to line (get_or tolds (table - 1) [])
 told_by tolds line None = []
 
 -- a hall stands after these events
-pub record Stands (starts : List AbstractTable) (events : List AbstractHallEvent) (state : HallState) (told : List Telling) : Type 0 where
+pub record Stands (starts : List AbstractTable) (events : List AbstractEvent) (state : HallState) (told : List Telling) : Type 0 where
   pub lines : (line : ℕ) → line_at state.lines line ≡ line_after (length starts) line events
   pub count : length state.lines ≡ lines_in_all
   pub tolds : List (List Telling)
@@ -159,7 +160,7 @@ pub record Stands (starts : List AbstractTable) (events : List AbstractHallEvent
   pub bytes : (line : ℕ) → line < lines_in_all → bytes_to line told ≡ refusal_for (length starts) (stream_of line events).items ++ told_by tolds line (first_request (length starts) (stream_of line events).items)
 
 -- nothing is heard of a line above the last
-past_over : (tables line : ℕ) (events : List AbstractHallEvent) → lines_in_all ≤ line → line_after tables line events ≡ over
+past_over : (tables line : ℕ) (events : List AbstractEvent) → lines_in_all ≤ line → line_after tables line events ≡ over
 past_over tables line events past =
     ap (λ there. standing (has_ended line events) there tables (stream_of line events)) (le-ltb line lines_in_all past) ∙ never (has_ended line events)
   where
@@ -168,43 +169,43 @@ past_over tables line events past =
     never false = refl
 
 -- the line of an event, in the hall's list
-changed : (tables line : ℕ) (lines : List HallLine) (events all : List AbstractHallEvent) (now : HallLine) → length lines ≡ lines_in_all → line_after tables line all ≡ now → line_at (set lines line now) line ≡ line_after tables line all
+changed : (tables line : ℕ) (lines : List HallLine) (events all : List AbstractEvent) (now : HallLine) → length lines ≡ lines_in_all → line_after tables line all ≡ now → line_at (set lines line now) line ≡ line_after tables line all
 changed tables line lines events all now count is = elim (cases_lt line (length lines)) [
   | inl within ↦ get_or-set_same lines line now over within ∙ sym is
   | inr past ↦ ap (λ these. line_at these line) (set_past lines line now past) ∙ get_or_past lines line over past ∙ sym (past_over tables line all (omega arith))
 ]
 
-lines_step : (tables : ℕ) (lines : List HallLine) (events : List AbstractHallEvent) (event : AbstractHallEvent) → length lines ≡ lines_in_all → ((line : ℕ) → line_at lines line ≡ line_after tables line events) → (line : ℕ) → line_at (lines_after tables lines event) line ≡ line_after tables line (events ++ event ∷ [])
-lines_step tables lines events (sends other at bytes) count are line = elim (same_or_other line other) [
-  | inl same ↦ subst (λ one. line_at (set lines other (line_beyond tables (line_at lines other) bytes)) one ≡ line_after tables one (events ++ sends other at bytes ∷ [])) (sym same)
-      (changed tables other lines events (events ++ sends other at bytes ∷ []) (line_beyond tables (line_at lines other) bytes) count
+lines_step : (tables : ℕ) (lines : List HallLine) (events : List AbstractEvent) (event : AbstractEvent) → length lines ≡ lines_in_all → ((line : ℕ) → line_at lines line ≡ line_after tables line events) → (line : ℕ) → line_at (lines_after tables lines event) line ≡ line_after tables line (events ++ event ∷ [])
+lines_step tables lines events (piece other at bytes) count are line = elim (same_or_other line other) [
+  | inl same ↦ subst (λ one. line_at (set lines other (line_beyond tables (line_at lines other) bytes)) one ≡ line_after tables one (events ++ piece other at bytes ∷ [])) (sym same)
+      (changed tables other lines events (events ++ piece other at bytes ∷ []) (line_beyond tables (line_at lines other) bytes) count
       (line_sends tables other at bytes events ∙ ap (λ one. line_beyond tables one bytes) (sym (are other))))
   | inr differ ↦ get_or-set_other lines other line (line_beyond tables (line_at lines other) bytes) over differ ∙ are line ∙ sym (other_sends tables line other at bytes events (λ same. differ (sym same)))
 ]
-lines_step tables lines events (ends other at) count are line = elim (same_or_other line other) [
-  | inl same ↦ subst (λ one. line_at (set lines other over) one ≡ line_after tables one (events ++ ends other at ∷ [])) (sym same)
-      (changed tables other lines events (events ++ ends other at ∷ []) over count (line_ends tables other at events))
+lines_step tables lines events (end_of_stream other at) count are line = elim (same_or_other line other) [
+  | inl same ↦ subst (λ one. line_at (set lines other over) one ≡ line_after tables one (events ++ end_of_stream other at ∷ [])) (sym same)
+      (changed tables other lines events (events ++ end_of_stream other at ∷ []) over count (line_ends tables other at events))
   | inr differ ↦ get_or-set_other lines other line over over differ ∙ are line ∙ sym (other_ends tables line other at events (λ same. differ (sym same)))
 ]
-lines_step tables lines events (ticks at) count are line = are line ∙ sym (clock_ticks tables line at events)
+lines_step tables lines events (moment_alone at) count are line = are line ∙ sym (clock_ticks tables line at events)
 
-count_step : (tables : ℕ) (lines : List HallLine) (event : AbstractHallEvent) → length lines ≡ lines_in_all → length (lines_after tables lines event) ≡ lines_in_all
-count_step tables lines (sends line at bytes) count = length-set lines line (line_beyond tables (line_at lines line) bytes) ∙ count
-count_step tables lines (ends line at) count = length-set lines line over ∙ count
-count_step tables lines (ticks at) count = count
+count_step : (tables : ℕ) (lines : List HallLine) (event : AbstractEvent) → length lines ≡ lines_in_all → length (lines_after tables lines event) ≡ lines_in_all
+count_step tables lines (piece line at bytes) count = length-set lines line (line_beyond tables (line_at lines line) bytes) ∙ count
+count_step tables lines (end_of_stream line at) count = length-set lines line over ∙ count
+count_step tables lines (moment_alone at) count = count
 
-heard_same : (others tables table : ℕ) (before lines : ℕ → HallLine) (event : AbstractHallEvent) → others ≡ tables → ((line : ℕ) → before line ≡ lines line) → heard_of others table before event ≡ heard_of tables table lines event
-heard_same others tables table before lines (sends line at bytes) same are = λ i. heard_of_piece (same i) table (are line i) line at bytes
-heard_same others tables table before lines (ends line at) same are = ap (λ one. heard_of_end table one line at) (are line)
-heard_same others tables table before lines (ticks at) same are = refl
+heard_same : (others tables table : ℕ) (before lines : ℕ → HallLine) (event : AbstractEvent) → others ≡ tables → ((line : ℕ) → before line ≡ lines line) → heard_of others table before event ≡ heard_of tables table lines event
+heard_same others tables table before lines (piece line at bytes) same are = λ i. heard_of_piece (same i) table (are line i) line at bytes
+heard_same others tables table before lines (end_of_stream line at) same are = ap (λ one. heard_of_end table one line at) (are line)
+heard_same others tables table before lines (moment_alone at) same are = refl
 
-refused_same : (others tables : ℕ) (before lines : ℕ → HallLine) (event : AbstractHallEvent) → others ≡ tables → ((line : ℕ) → before line ≡ lines line) → refused_by others before event ≡ refused_by tables lines event
-refused_same others tables before lines (sends line at bytes) same are = λ i. refused_in (same i) (are line i) line bytes
-refused_same others tables before lines (ends line at) same are = refl
-refused_same others tables before lines (ticks at) same are = refl
+refused_same : (others tables : ℕ) (before lines : ℕ → HallLine) (event : AbstractEvent) → others ≡ tables → ((line : ℕ) → before line ≡ lines line) → refused_by others before event ≡ refused_by tables lines event
+refused_same others tables before lines (piece line at bytes) same are = λ i. refused_in (same i) (are line i) line bytes
+refused_same others tables before lines (end_of_stream line at) same are = refl
+refused_same others tables before lines (moment_alone at) same are = refl
 
 -- What a line is told by no table.
-nothing_sent : (line : ℕ) (events : List AbstractHallEvent) (event : AbstractHallEvent) → brings line event ≡ [] → stream_of line (events ++ event ∷ []) ≡ stream_of line events
+nothing_sent : (line : ℕ) (events : List AbstractEvent) (event : AbstractEvent) → brings line event ≡ [] → stream_of line (events ++ event ∷ []) ≡ stream_of line events
 nothing_sent line events event nothing =
     ap (λ sent. cut message_limit (incomplete []) sent)
     (sent_more line events event ∙ ap (λ more. sent_by line events ++ (if has_ended line events then [] else more)) nothing ∙ ap (λ more. sent_by line events ++ more) (either (has_ended line events)) ∙ append-nil (sent_by line events))
@@ -251,23 +252,23 @@ module _ (tables line : ℕ) where
       ap (λ c. refusal_for tables c.items) (cut-append message_limit (incomplete []) sent bytes)
       ∙ by_cut (cut message_limit (incomplete []) sent).items (cut message_limit (incomplete []) sent).rest bytes
 
-  own_refused : (at : ℕ) (bytes : List ℕ) (events : List AbstractHallEvent) → line < lines_in_all → refusal_for tables (stream_of line (events ++ sends line at bytes ∷ [])).items ≡ refusal_for tables (stream_of line events).items ++ bytes_to line (refused_in tables (line_after tables line events) line bytes)
+  own_refused : (at : ℕ) (bytes : List ℕ) (events : List AbstractEvent) → line < lines_in_all → refusal_for tables (stream_of line (events ++ piece line at bytes ∷ [])).items ≡ refusal_for tables (stream_of line events).items ++ bytes_to line (refused_in tables (line_after tables line events) line bytes)
   own_refused at bytes events within =
-      ap (λ sent. refusal_for tables (cut message_limit (incomplete []) sent).items) (sent_more line events (sends line at bytes) ∙ ap (λ more. sent_by line events ++ (if has_ended line events then [] else more)) (brings_own line at bytes))
+      ap (λ sent. refusal_for tables (cut message_limit (incomplete []) sent).items) (sent_more line events (piece line at bytes) ∙ ap (λ more. sent_by line events ++ (if has_ended line events then [] else more)) (brings_own line at bytes))
       ∙ own_refusal (has_ended line events) (sent_by line events) bytes
       ∙ ap (λ there. refusal_for tables (stream_of line events).items ++ bytes_to line (refused_in tables (standing (has_ended line events) there tables (stream_of line events)) line bytes)) (sym (lt-ltb line lines_in_all within))
 
-  refusal_step : (events : List AbstractHallEvent) (event : AbstractHallEvent) → line < lines_in_all → refusal_for tables (stream_of line (events ++ event ∷ [])).items ≡ refusal_for tables (stream_of line events).items ++ bytes_to line (refused_by tables (λ one. line_after tables one events) event)
-  refusal_step events (sends other at bytes) within = by_test (other == line)
+  refusal_step : (events : List AbstractEvent) (event : AbstractEvent) → line < lines_in_all → refusal_for tables (stream_of line (events ++ event ∷ [])).items ≡ refusal_for tables (stream_of line events).items ++ bytes_to line (refused_by tables (λ one. line_after tables one events) event)
+  refusal_step events (piece other at bytes) within = by_test (other == line)
       (λ test. (let same : other ≡ line = eqb-true other line test in
-      subst (λ one. refusal_for tables (stream_of line (events ++ sends one at bytes ∷ [])).items ≡ refusal_for tables (stream_of line events).items ++ bytes_to line (refused_in tables (line_after tables one events) one bytes)) (sym same) (own_refused at bytes events within)))
+      subst (λ one. refusal_for tables (stream_of line (events ++ piece one at bytes ∷ [])).items ≡ refusal_for tables (stream_of line events).items ++ bytes_to line (refused_in tables (line_after tables one events) one bytes)) (sym same) (own_refused at bytes events within)))
       (λ test. (let differ : other ≢ line = λ same. true≢false (sym (eq-eqb other line same) ∙ test) in
-      ap (λ c. refusal_for tables c.items) (nothing_sent line events (sends other at bytes) (brings_other line other at bytes differ))
+      ap (λ c. refusal_for tables c.items) (nothing_sent line events (piece other at bytes) (brings_other line other at bytes differ))
       ∙ sym (ap (λ more. refusal_for tables (stream_of line events).items ++ more) (refused_other tables line other bytes (line_after tables other events) differ) ∙ append-nil (refusal_for tables (stream_of line events).items))))
-  refusal_step events (ends other at) within =
-      ap (λ c. refusal_for tables c.items) (nothing_sent line events (ends other at) refl) ∙ sym (append-nil (refusal_for tables (stream_of line events).items))
-  refusal_step events (ticks at) within =
-      ap (λ c. refusal_for tables c.items) (nothing_sent line events (ticks at) refl) ∙ sym (append-nil (refusal_for tables (stream_of line events).items))
+  refusal_step events (end_of_stream other at) within =
+      ap (λ c. refusal_for tables c.items) (nothing_sent line events (end_of_stream other at) refl) ∙ sym (append-nil (refusal_for tables (stream_of line events).items))
+  refusal_step events (moment_alone at) within =
+      ap (λ c. refusal_for tables c.items) (nothing_sent line events (moment_alone at) refl) ∙ sym (append-nil (refusal_for tables (stream_of line events).items))
 
   pub asked_untold : (items : List Item) (table : ℕ) → is_for table (first_request tables items) ≡ true → refusal_for tables items ≡ []
   asked_untold [] table asked = absurd (true≢false (sym asked))
@@ -278,7 +279,7 @@ module _ (tables line : ℕ) where
       by_asked None it = absurd (true≢false (sym it))
 
 -- what stands after one more event
-module _ {starts : List AbstractTable} {events : List AbstractHallEvent} {event : AbstractHallEvent} {old new : HallState} {told next : List Telling} (stands : Stands starts events old told) (steps : HallSteps old event new next) where
+module _ {starts : List AbstractTable} {events : List AbstractEvent} {event : AbstractEvent} {old new : HallState} {told next : List Telling} (stands : Stands starts events old told) (steps : HallSteps old event new next) where
   tables_count : length old.tables ≡ length starts
   tables_count = (runs_count stands.runs).0
 
@@ -319,7 +320,7 @@ module _ {starts : List AbstractTable} {events : List AbstractHallEvent} {event 
     | inr past ↦ ap (bytes_to line) (past_nothing steps.by_tables index (omega (arith, firsts_count, (runs_count stands.runs).1)))
   ]
 
-  abbrev request_in : (line : ℕ) → List AbstractHallEvent → Option ℕ
+  abbrev request_in : (line : ℕ) → List AbstractEvent → Option ℕ
   request_in line all = first_request (length starts) (stream_of line all).items
 
   itself : (table : ℕ) → (table == table) ≡ true
@@ -420,6 +421,6 @@ unfolding stands_first
 tolds_first starts = refl
 
 -- So does a hall after each run.
-pub run_stands : {starts : List AbstractTable} {events : List AbstractHallEvent} {state : HallState} {told : List Telling} → HallRun starts events state told → Stands starts events state told
+pub run_stands : {starts : List AbstractTable} {events : List AbstractEvent} {state : HallState} {told : List Telling} → HallRun starts events state told → Stands starts events state told
 run_stands {starts} halls.none = stands_first starts
 run_stands (halls.more run steps) = stands_on (run_stands run) steps

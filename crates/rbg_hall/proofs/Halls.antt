@@ -3,7 +3,8 @@ use Rattle.rbg_base.proofs.Common.{◌≡◌, ℕ, zero, suc, ◌+◌, ◌<◌, 
 use Rattle.rbg_hall.proofs.TableCommon.{OwnEvent, clock, Telling, told_to}
 use Rattle.rbg_hall.proofs.Telling.{told_to-none}
 use Rattle.rbg_hall.specs.Kept.{KeptState}
-use Rattle.rbg_hall.proofs.Common.{LinePhase, Over, sends, ends, ticks, EachHears, HearsEach, line_at, line_beyond, refused_in, HallLine, over, heard_of_piece, heard_of_end, EachBecomes, EachWrites, HallStops, HallWrites, KeptHearsEach, EachKeptHears, PieceHeard, TablesHear, TablesStop, said_by, hall_of, ledgers_of, line_of, lines_of, states_of}
+use Rattle.rbg_hall.proofs.Common.{LinePhase, Over, EachHears, HearsEach, line_at, line_beyond, refused_in, HallLine, over, heard_of_piece, heard_of_end, EachBecomes, EachWrites, HallStops, HallWrites, KeptHearsEach, EachKeptHears, PieceHeard, TablesHear, TablesStop, said_by, hall_of, ledgers_of, line_of, lines_of, states_of}
+use Rattle.rbg_script.specs.Events.{piece, end_of_stream, moment_alone}
 use Rattle.rbg_hall.specs.Halls as halls
 use Rattle.rbg_hall.specs.Ledgers as ledgers
 use Rattle.rbg_hall.specs.internal.Hearing as hearing
@@ -54,7 +55,7 @@ module _ {W : Type 0} (tells : W → List ℕ → Type 0) (tables : List (KeptSt
   none_ended = none_hear (λ (table : ℕ). heard_of_end table (line_at (lines_of lines) line) line at) 1 tables
       (λ index. ap (λ one. heard_of_end (1 + index) one line at) over_there)
 
-  pub past_sends : (bytes : List ℕ) → HallWrites tells (hall_of tables lines) (ledgers_of tables) (sends line at bytes) (hall_of tables lines) (ledgers_of tables) queues queues
+  pub past_sends : (bytes : List ℕ) → HallWrites tells (hall_of tables lines) (ledgers_of tables) (piece line at bytes) (hall_of tables lines) (ledgers_of tables) queues queues
   past_sends bytes = record {
     hears = record {
       told = [];
@@ -69,7 +70,7 @@ module _ {W : Type 0} (tells : W → List ℕ → Type 0) (tables : List (KeptSt
     each = all_write (none_sent bytes);
   }
 
-  pub past_ends : HallWrites tells (hall_of tables lines) (ledgers_of tables) (ends line at) (hall_of tables lines) (ledgers_of tables) queues queues
+  pub past_ends : HallWrites tells (hall_of tables lines) (ledgers_of tables) (end_of_stream line at) (hall_of tables lines) (ledgers_of tables) queues queues
   past_ends = record {
     hears = record {
       told = [];
@@ -98,7 +99,7 @@ module _ {W : Type 0} (tells : W → List ℕ → Type 0) (tables news : List (K
       subst (λ (standing : HallLine). EachKeptHears tells (λ (table : ℕ). heard_of_piece (length (states_of tables)) table standing line at bytes) 1 tables news hears.told) stands_so
       (subst (λ (count : ℕ). EachKeptHears tells (λ (table : ℕ). heard_of_piece count table (line_of one) line at bytes) 1 tables news hears.told) (as_many tables) hears.tables)
 
-  pub line_sends : (bytes : List ℕ) (left next : LinePhase) → PieceHeard tells tables (line_of one) line at bytes news (line_of next) before after → HallWrites tells (hall_of tables lines) (ledgers_of tables) (sends line at bytes) (hall_of news (set (set lines line left) line next)) (ledgers_of news) before after
+  pub line_sends : (bytes : List ℕ) (left next : LinePhase) → PieceHeard tells tables (line_of one) line at bytes news (line_of next) before after → HallWrites tells (hall_of tables lines) (ledgers_of tables) (piece line at bytes) (hall_of news (set (set lines line left) line next)) (ledgers_of news) before after
   line_sends bytes left next hears = record {
     hears = record {
       told = refused_in (length (states_of tables)) (line_of one) line bytes ++ flat_map (λ one. one) hears.told;
@@ -117,7 +118,7 @@ module _ {W : Type 0} (tells : W → List ℕ → Type 0) (tables news : List (K
   has_ended : (hears : TablesHear tells (λ (table : ℕ). heard_of_end table (line_of one) line at) tables news before after) → EachKeptHears tells (λ (table : ℕ). heard_of_end table (line_at (lines_of lines) line) line at) 1 tables news hears.told
   has_ended hears = subst (λ (standing : HallLine). EachKeptHears tells (λ (table : ℕ). heard_of_end table standing line at) 1 tables news hears.told) stands_so hears.tables
 
-  pub line_ends : (left : LinePhase) → left ≡ Over → TablesHear tells (λ (table : ℕ). heard_of_end table (line_of one) line at) tables news before after → HallWrites tells (hall_of tables lines) (ledgers_of tables) (ends line at) (hall_of news (set lines line left)) (ledgers_of news) before after
+  pub line_ends : (left : LinePhase) → left ≡ Over → TablesHear tells (λ (table : ℕ). heard_of_end table (line_of one) line at) tables news before after → HallWrites tells (hall_of tables lines) (ledgers_of tables) (end_of_stream line at) (hall_of news (set lines line left)) (ledgers_of news) before after
   line_ends left is hears = record {
     hears = record {
       told = flat_map (λ one. one) hears.told;
@@ -133,7 +134,7 @@ module _ {W : Type 0} (tells : W → List ℕ → Type 0) (tables news : List (K
   }
 
 -- the clock
-pub clock_ticks : {W : Type 0} (tells : W → List ℕ → Type 0) (tables news : List (KeptState W)) (lines : List LinePhase) (at : ℕ) (before after : List (List ℕ)) → TablesHear tells (λ (table : ℕ). clock at ∷ []) tables news before after → HallWrites tells (hall_of tables lines) (ledgers_of tables) (ticks at) (hall_of news lines) (ledgers_of news) before after
+pub clock_ticks : {W : Type 0} (tells : W → List ℕ → Type 0) (tables news : List (KeptState W)) (lines : List LinePhase) (at : ℕ) (before after : List (List ℕ)) → TablesHear tells (λ (table : ℕ). clock at ∷ []) tables news before after → HallWrites tells (hall_of tables lines) (ledgers_of tables) (moment_alone at) (hall_of news lines) (ledgers_of news) before after
 clock_ticks tells tables news lines at before after hears = record {
   hears = record {
     told = flat_map (λ one. one) hears.told;

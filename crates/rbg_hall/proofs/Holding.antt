@@ -8,7 +8,8 @@ use Rattle.rbg_wire.specs.declared.outcome.Outcome.{Outcome}
 use Rattle.rbg_wire.specs.Messages.{refusal_message, spelling}
 use Rattle.rbg_rules.specs.Meaning.{AbstractGame}
 use Rattle.rbg_match.specs.declared.config.Config.{Config}
-use Rattle.rbg_match.proofs.Common.{Delivery, bytes_for, delivered, delivered_from, AbstractEvent, timed_inputs_in, MatchState, Opens, Steps, StepsAll, seats_of}
+use Rattle.rbg_match.proofs.Common.{Delivery, bytes_for, delivered, delivered_from, timed_inputs_in, MatchState, Opens, Steps, StepsAll, seats_of}
+use Rattle.rbg_script.specs.Events.{AbstractEvent}
 use Rattle.rbg_match.specs.Matches as matches
 use Rattle.rbg_match.proofs.AllEvents.{all_handled}
 use Rattle.rbg_match.proofs.Delivering.{delivered-none, delivered-queued, length-delivered}

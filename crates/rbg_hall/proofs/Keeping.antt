@@ -1,16 +1,17 @@
 -- A table keeps the log of its match.
-use Rattle.rbg_base.proofs.Common.{◌≡◌, ℕ, Bor, ◌+◌, ◌<◌, ◌^◌, Bool, true, false, List, [], ◌∷◌, ◌++◌, All, map, Option, Some, None, is_none, refl, sym, ap, subst, append-nil, slice_set, option_copied, IfSome, OnErr, OnOk, Result, Ok, Err, All-nil, none-some}
+use Rattle.rbg_base.proofs.Common.{◌≡◌, ℕ, Bor, ◌+◌, ◌<◌, ◌^◌, Bool, true, false, List, [], ◌∷◌, ◌++◌, All, Option, Some, None, is_none, refl, sym, ap, subst, append-nil, slice_set, option_copied, IfSome, OnErr, OnOk, Result, Ok, Err, All-nil, none-some}
 use Rattle.std.proofs.lemmas.Bool.{true≢false}
 use Rattle.rbg_rules.specs.Meaning.{AbstractGame}
 use Rattle.rbg_match.specs.declared.config.Config.{Config}
-use Rattle.rbg_match.proofs.Common.{delivered, AbstractEvent, piece, end_of_stream, message_limit, MatchState, Opens, Steps}
+use Rattle.rbg_match.proofs.Common.{delivered, message_limit, MatchState, Opens, Steps}
+use Rattle.rbg_script.specs.Events.{AbstractEvent, piece, end_of_stream}
 use Rattle.rbg_script.specs.Events.{EventHasSpelling}
 use Rattle.rbg_wire.specs.Whole.{whole_item}
 use Rattle.rbg_hall.proofs.TableCommon.{HearsFor, Hands, TableState, OwnEvent, Plays, Hears, waits, ticks, sits, begins, is_full, comes_late, stays, waits_too, stirs, is_early, plays, frees, goes, is_moment_for_none, is_unheard, goes_unheard, Telling}
 use Rattle.rbg_hall.specs.TableLaws as laws
 use Rattle.rbg_hall.proofs.Holding.{step_on}
 use Rattle.rbg_hall.proofs.Seats.{SeatsDiffer, no_seats, one_differ}
-use Rattle.rbg_serving.specs.Logs.{Appends, Logs, event_lines, first_line, scripted}
+use Rattle.rbg_serving.specs.Logs.{Appends, Logs, event_lines, first_line}
 use Rattle.rbg_serving.specs.Written.{written}
 use Rattle.rbg_serving.proofs.Logging.{log_begins, log_on}
 use Rattle.rbg_hall.specs.declared.standing.Standing.{Standing}
@@ -89,7 +90,7 @@ module _ {W : Type 0} (told : W → List ℕ → Type 0) (first middle last : W)
             (appends (logged.held ++ event_lines (written playing one))
             (subst (λ (these : List AbstractEvent). told middle (logged.held ++ event_lines these)) noted (logs.lines logged.held logged.tells)));
         is = log_on text logged.held playing after logged.outgoing (delivered logged.outgoing step'.outgoing) one logged.is (step_on logged.outgoing step')
-            (subst (λ (these : List AbstractEvent). All EventHasSpelling (map scripted these)) noted logs.spelled);
+            (subst (λ (these : List AbstractEvent). All EventHasSpelling these) noted logs.spelled);
       }
     where
       same : (a b : MatchState) → Some a ≡ Some b → a ≡ b

@@ -1,15 +1,15 @@
 -- What the match of a log's script sends is what the lines on the seats are told.
-use Rattle.rbg_base.proofs.Common.{◌≡◌, ℕ, ◌+◌, ◌<◌, ◌^◌, List, [], ◌∷◌, ◌++◌, All, length, map, get_or, replicate, Option, Some, None, is_none, refl, sym, ap, ◌∙◌, subst, append-nil, append_assoc, slice_get, none-some}
+use Rattle.rbg_base.proofs.Common.{◌≡◌, ℕ, ◌+◌, ◌<◌, ◌^◌, List, [], ◌∷◌, ◌++◌, All, length, get_or, replicate, Option, Some, None, is_none, refl, sym, ap, ◌∙◌, subst, append-nil, append_assoc, slice_get, none-some}
 use Rattle.std.proofs.lemmas.List.{length-replicate, length-set}
 use Rattle.rbg_game.specs.Loading.{Loads}
 use Rattle.rbg_wire.specs.declared.message.Reason.TheVariants.{NoSeat}
 use Rattle.rbg_wire.specs.Messages.{refusal_message, spelling}
 use Rattle.rbg_rules.specs.Meaning.{AbstractGame}
 use Rattle.rbg_match.specs.declared.config.Config.{Config}
-use Rattle.rbg_match.proofs.Common.{bytes_for, delivered, AbstractEvent, MatchState, Opens, Steps, seats_of}
+use Rattle.rbg_match.proofs.Common.{bytes_for, delivered, MatchState, Opens, Steps, seats_of}
 use Rattle.rbg_match.proofs.Delivering.{length-delivered}
 use Rattle.rbg_match.proofs.WholeMatch.{seats_of_opened}
-use Rattle.rbg_script.specs.Events.{EventHasSpelling}
+use Rattle.rbg_script.specs.Events.{EventHasSpelling, AbstractEvent}
 use Rattle.rbg_hall.proofs.TableCommon.{Beginning, Hands, HoldsTranscript, TakesLast, TableState, TableRun, OwnEvent, joins, Plays, Hears, SitsAt, HasNoSeat, Telling, bytes_to, telling, to_lines}
 use Rattle.rbg_hall.specs.TableLaws as laws
 use Rattle.rbg_hall.specs.Tables as tables
@@ -18,7 +18,7 @@ use Rattle.rbg_hall.proofs.Holding.{delivered_at, from_nothing, run_holds_transc
 use Rattle.rbg_hall.proofs.Places.{there_within}
 use Rattle.rbg_hall.proofs.Seats.{SeatsDiffer, all_differ, differ_taken, own_on}
 use Rattle.rbg_hall.proofs.Telling.{bytes_to-append, bytes_to-other}
-use Rattle.rbg_serving.specs.Logs.{Appends, IsLog, event_lines, first_line, scripted}
+use Rattle.rbg_serving.specs.Logs.{Appends, IsLog, event_lines, first_line}
 use Rattle.rbg_serving.specs.Written.{written}
 use Rattle.rbg_serving.proofs.Logging.{log_begins, log_on}
 use Rattle.rbg_hall.specs.declared.standing.Standing.{Standing}
@@ -142,7 +142,7 @@ module _ {W : Type 0} (told : W → List ℕ → Type 0) (first last : W) (game 
         ∙ append-nil (bytes_to one logged.beginning.early ++ get_or logged.sent index []);
   }
 
-  plays_on : (event : OwnEvent) (next : List Telling) (was : Option MatchState) (seats : List (Option ℕ)) (before after : MatchState) (one : AbstractEvent) (queues : List (List ℕ)) (count : ℕ) → was ≡ Some before → lines ≡ written_for was one → All EventHasSpelling (map scripted lines) → SeatsDiffer seats → length seats ≡ count → Steps before one after (replicate count []) queues → next ≡ to_lines seats queues → Appends told first last (event_lines lines ++ first_for (is_none was) (Some after) its moment) → Logged told first game text config events seats was outgoing → Since told last game text config (events ++ event ∷ []) seats after (outgoing ++ next)
+  plays_on : (event : OwnEvent) (next : List Telling) (was : Option MatchState) (seats : List (Option ℕ)) (before after : MatchState) (one : AbstractEvent) (queues : List (List ℕ)) (count : ℕ) → was ≡ Some before → lines ≡ written_for was one → All EventHasSpelling lines → SeatsDiffer seats → length seats ≡ count → Steps before one after (replicate count []) queues → next ≡ to_lines seats queues → Appends told first last (event_lines lines ++ first_for (is_none was) (Some after) its moment) → Logged told first game text config events seats was outgoing → Since told last game text config (events ++ event ∷ []) seats after (outgoing ++ next)
   plays_on event next None seats before after one queues count is noted spelled differ seated step to appends logged = absurd (none-some before is)
   plays_on event next (Some playing) seats before after one queues count is noted spelled differ seated step to appends logged =
       let step' : Steps playing one after (replicate count []) queues = subst (λ (state : MatchState). Steps state one after (replicate count []) queues) (sym (same playing before is)) step in
@@ -153,7 +153,7 @@ module _ {W : Type 0} (told : W → List ℕ → Type 0) (first last : W) (game 
         tells = subst (λ (bytes : List ℕ). told last (logged.held ++ bytes)) (append-nil (event_lines (written playing one)))
             (subst (λ (these : List AbstractEvent). told last (logged.held ++ (event_lines these ++ []))) noted (appends logged.held logged.tells));
         is = log_on text logged.held playing after logged.sent (delivered logged.sent step'.outgoing) one logged.is (step_on logged.sent step')
-            (subst (λ (these : List AbstractEvent). All EventHasSpelling (map scripted these)) noted spelled);
+            (subst (λ (these : List AbstractEvent). All EventHasSpelling these) noted spelled);
         count = length-delivered logged.sent step'.outgoing ∙ logged.count;
         on_seats = λ index line there.
             (let within : index < length seats = there_within seats index (Some line) there in

@@ -5,21 +5,22 @@ use Rattle.rbg_wire.specs.Streams.{Item, Rest, incomplete, Cut, cut}
 use Rattle.rbg_wire.proofs.CutLemmas.{cut-append}
 use Rattle.rbg_match.specs.Limits.{message_limit}
 use Rattle.rbg_hall.proofs.TableCommon.{lines_in_all, OwnEvent, clock, joins, arrives, says, leaves}
-use Rattle.rbg_hall.proofs.Common.{AbstractHallEvent, sends, ends, ticks, HallLine, silent, asks, over, asking, line_cut, sent_by, has_ended, stream_of, line_after, first_request, heard_first, heard_of_piece, heard_of_end, heard_of, own_after, own, requested, is_for}
+use Rattle.rbg_hall.proofs.Common.{HallLine, silent, asks, over, asking, line_cut, sent_by, has_ended, stream_of, line_after, first_request, heard_first, heard_of_piece, heard_of_end, heard_of, own_after, own, requested, is_for}
+use Rattle.rbg_script.specs.Events.{AbstractEvent, piece, end_of_stream, moment_alone}
 use Rattle.rbg_hall.proofs.Growing.{by_test, brings, brings_own, sent_more, standing}
 
-after_more : (tables table : ℕ) (before events : List AbstractHallEvent) (event : AbstractHallEvent) → own_after tables table before (events ++ event ∷ []) ≡ own_after tables table before events ++ heard_of tables table (λ line. line_after tables line (before ++ events)) event
+after_more : (tables table : ℕ) (before events : List AbstractEvent) (event : AbstractEvent) → own_after tables table before (events ++ event ∷ []) ≡ own_after tables table before events ++ heard_of tables table (λ line. line_after tables line (before ++ events)) event
 after_more tables table before [] event =
     append-nil (heard_of tables table (λ line. line_after tables line before) event)
-    ∙ ap (λ (all : List AbstractHallEvent). heard_of tables table (λ line. line_after tables line all) event) (sym (append-nil before))
+    ∙ ap (λ (all : List AbstractEvent). heard_of tables table (λ line. line_after tables line all) event) (sym (append-nil before))
 after_more tables table before (first ∷ events) event =
     let heard = heard_of tables table (λ line. line_after tables line before) first in
     ap (λ next. heard ++ next) (after_more tables table (before ++ first ∷ []) events event)
     ∙ sym (append_assoc heard (own_after tables table (before ++ first ∷ []) events) (heard_of tables table (λ line. line_after tables line ((before ++ first ∷ []) ++ events)) event))
-    ∙ ap (λ (all : List AbstractHallEvent). (heard ++ own_after tables table (before ++ first ∷ []) events) ++ heard_of tables table (λ line. line_after tables line all) event) (append_assoc before (first ∷ []) events)
+    ∙ ap (λ (all : List AbstractEvent). (heard ++ own_after tables table (before ++ first ∷ []) events) ++ heard_of tables table (λ line. line_after tables line all) event) (append_assoc before (first ∷ []) events)
 
 -- what a table hears of one more event
-pub own_more : (tables table : ℕ) (events : List AbstractHallEvent) (event : AbstractHallEvent) → own tables table (events ++ event ∷ []) ≡ own tables table events ++ heard_of tables table (λ line. line_after tables line events) event
+pub own_more : (tables table : ℕ) (events : List AbstractEvent) (event : AbstractEvent) → own tables table (events ++ event ∷ []) ≡ own tables table events ++ heard_of tables table (λ line. line_after tables line events) event
 own_more tables table events event = after_more tables table [] events event
 
 -- whether what a table hears is of this line
@@ -48,7 +49,7 @@ lacks_next line [] b all = all
 lacks_next line (event ∷ a) b all = lacks_next line a b all.1
 
 -- whether the first item that a line sent asks for the table
-abbrev pub asks_in : (tables table line : ℕ) → List AbstractHallEvent → Bool
+abbrev pub asks_in : (tables table line : ℕ) → List AbstractEvent → Bool
 asks_in tables table line events = is_for table (first_request tables (stream_of line events).items)
 
 request_kept : (tables table : ℕ) (items more : List Item) → is_for table (first_request tables items) ≡ true → is_for table (first_request tables (items ++ more)) ≡ true
@@ -60,20 +61,20 @@ asked_on tables table sent more asked =
     ap (λ c. is_for table (first_request tables c.items)) (cut-append message_limit (incomplete []) sent more)
     ∙ request_kept tables table (cut message_limit (incomplete []) sent).items (cut message_limit (cut message_limit (incomplete []) sent).rest more).items asked
 
-asked_more : (tables table line : ℕ) (events : List AbstractHallEvent) (event : AbstractHallEvent) → asks_in tables table line events ≡ true → asks_in tables table line (events ++ event ∷ []) ≡ true
+asked_more : (tables table line : ℕ) (events : List AbstractEvent) (event : AbstractEvent) → asks_in tables table line events ≡ true → asks_in tables table line (events ++ event ∷ []) ≡ true
 asked_more tables table line events event asked =
     ap (λ sent. is_for table (first_request tables (cut message_limit (incomplete []) sent).items)) (sent_more line events event)
     ∙ asked_on tables table (sent_by line events) (if has_ended line events then [] else brings line event) asked
 
 -- a line that asks for a table goes on to do so
-pub asked_later : (tables table line : ℕ) (events more : List AbstractHallEvent) → asks_in tables table line events ≡ true → asks_in tables table line (events ++ more) ≡ true
+pub asked_later : (tables table line : ℕ) (events more : List AbstractEvent) → asks_in tables table line events ≡ true → asks_in tables table line (events ++ more) ≡ true
 asked_later tables table line events [] asked = ap (asks_in tables table line) (append-nil events) ∙ asked
 asked_later tables table line events (event ∷ more) asked =
     ap (asks_in tables table line) (sym (append_assoc events (event ∷ []) more))
     ∙ asked_later tables table line (events ++ event ∷ []) more (asked_more tables table line events event asked)
 
 -- one that doesn't hasn't before
-pub unasked_before : (tables table line : ℕ) (events more : List AbstractHallEvent) → asks_in tables table line (events ++ more) ≡ false → asks_in tables table line events ≡ false
+pub unasked_before : (tables table line : ℕ) (events more : List AbstractEvent) → asks_in tables table line (events ++ more) ≡ false → asks_in tables table line events ≡ false
 unasked_before tables table line events more unasked =
     by_test (asks_in tables table line events)
     (λ asked. absurd (true≢false (sym (asked_later tables table line events more asked) ∙ unasked)))
@@ -139,35 +140,35 @@ module _ (tables table line at : ℕ) where
       (ap (λ c. is_for table (first_request tables c.items)) (sym (cut-append message_limit (incomplete []) sent bytes)) ∙ unasked)
   piece_unheard false false sent bytes unasked = refl
 
-  pub own_end_unheard : (events : List AbstractHallEvent) → asks_in tables table line events ≡ false → heard_of_end table (line_after tables line events) line at ≡ []
+  pub own_end_unheard : (events : List AbstractEvent) → asks_in tables table line events ≡ false → heard_of_end table (line_after tables line events) line at ≡ []
   own_end_unheard events unasked = end_unheard (has_ended line events) (nat_lt line lines_in_all) (stream_of line events) unasked
 
-  pub own_piece_unheard : (bytes : List ℕ) (events : List AbstractHallEvent) → asks_in tables table line (events ++ sends line at bytes ∷ []) ≡ false → heard_of_piece tables table (line_after tables line events) line at bytes ≡ []
+  pub own_piece_unheard : (bytes : List ℕ) (events : List AbstractEvent) → asks_in tables table line (events ++ piece line at bytes ∷ []) ≡ false → heard_of_piece tables table (line_after tables line events) line at bytes ≡ []
   own_piece_unheard bytes events unasked =
-      let sent : sent_by line (events ++ sends line at bytes ∷ []) ≡ sent_by line events ++ (if has_ended line events then [] else bytes) =
-      sent_more line events (sends line at bytes) ∙ ap (λ own. sent_by line events ++ (if has_ended line events then [] else own)) (brings_own line at bytes) in
+      let sent : sent_by line (events ++ piece line at bytes ∷ []) ≡ sent_by line events ++ (if has_ended line events then [] else bytes) =
+      sent_more line events (piece line at bytes) ∙ ap (λ own. sent_by line events ++ (if has_ended line events then [] else own)) (brings_own line at bytes) in
       piece_unheard (has_ended line events) (nat_lt line lines_in_all) (sent_by line events) bytes
       (ap (λ all. is_for table (first_request tables (cut message_limit (incomplete []) all).items)) (sym sent) ∙ unasked)
 
 -- of a line that doesn't ask for it, a table hears nothing in one more event
-pub heard_lacks : (tables table line : ℕ) (events : List AbstractHallEvent) (event : AbstractHallEvent) → asks_in tables table line (events ++ event ∷ []) ≡ false → Lacks line (heard_of tables table (λ one. line_after tables one events) event)
-heard_lacks tables table line events (sends other at bytes) unasked =
+pub heard_lacks : (tables table line : ℕ) (events : List AbstractEvent) (event : AbstractEvent) → asks_in tables table line (events ++ event ∷ []) ≡ false → Lacks line (heard_of tables table (λ one. line_after tables one events) event)
+heard_lacks tables table line events (piece other at bytes) unasked =
     by_test (other == line)
     (λ test.
     let same : line ≡ other = sym (eqb-true other line test) in
-    let all : asks_in tables table other (events ++ sends other at bytes ∷ []) ≡ false = subst (λ one. asks_in tables table one (events ++ sends other at bytes ∷ []) ≡ false) same unasked in
+    let all : asks_in tables table other (events ++ piece other at bytes ∷ []) ≡ false = subst (λ one. asks_in tables table one (events ++ piece other at bytes ∷ []) ≡ false) same unasked in
     subst (Lacks line) (sym (own_piece_unheard tables table other at bytes events all)) tt)
     (λ test. piece_lacks tables table line other at bytes (line_after tables other events) test)
-heard_lacks tables table line events (ends other at) unasked =
+heard_lacks tables table line events (end_of_stream other at) unasked =
     by_test (other == line)
     (λ test.
     let same : line ≡ other = sym (eqb-true other line test) in
-    let all : asks_in tables table other events ≡ false = subst (λ one. asks_in tables table one events ≡ false) same (unasked_before tables table line events (ends other at ∷ []) unasked) in
+    let all : asks_in tables table other events ≡ false = subst (λ one. asks_in tables table one events ≡ false) same (unasked_before tables table line events (end_of_stream other at ∷ []) unasked) in
     subst (Lacks line) (sym (own_end_unheard tables table other at events all)) tt)
     (λ test. end_lacks table line other at (line_after tables other events) test)
-heard_lacks tables table line events (ticks at) unasked = (refl, tt)
+heard_lacks tables table line events (moment_alone at) unasked = (refl, tt)
 
-after_lacks : (tables table line : ℕ) (before events : List AbstractHallEvent) → asks_in tables table line (before ++ events) ≡ false → Lacks line (own_after tables table before events)
+after_lacks : (tables table line : ℕ) (before events : List AbstractEvent) → asks_in tables table line (before ++ events) ≡ false → Lacks line (own_after tables table before events)
 after_lacks tables table line before [] unasked = tt
 after_lacks tables table line before (event ∷ events) unasked =
     let all : asks_in tables table line ((before ++ event ∷ []) ++ events) ≡ false = ap (asks_in tables table line) (append_assoc before (event ∷ []) events) ∙ unasked in
@@ -176,5 +177,5 @@ after_lacks tables table line before (event ∷ events) unasked =
     (after_lacks tables table line (before ++ event ∷ []) events all)
 
 -- A table hears nothing of a line that doesn't ask for it.
-pub own_lacks : (tables table line : ℕ) (events : List AbstractHallEvent) → asks_in tables table line events ≡ false → Lacks line (own tables table events)
+pub own_lacks : (tables table line : ℕ) (events : List AbstractEvent) → asks_in tables table line events ≡ false → Lacks line (own tables table events)
 own_lacks tables table line events unasked = after_lacks tables table line [] events unasked

@@ -4,7 +4,8 @@ use Rattle.rbg_wire.specs.declared.message.Reason.TheVariants.{NoSeat}
 use Rattle.rbg_wire.proofs.Common.{refusal_message, spelling, Item}
 use Rattle.rbg_hall.proofs.TableCommon.{lines_in_all, HallOf, Telling, bytes_to, told_from, told_to}
 use Rattle.rbg_hall.proofs.Telling.{length-told_to}
-use Rattle.rbg_hall.proofs.Common.{IsAllowed, bytes_by, bytes_for, AbstractHallEvent, AbstractTable, HallState, RunIsAllowed, stream_of, first_request, own, requested}
+use Rattle.rbg_hall.proofs.Common.{IsAllowed, bytes_by, bytes_for, AbstractTable, HallState, RunIsAllowed, stream_of, first_request, own, requested}
+use Rattle.rbg_script.specs.Events.{AbstractEvent}
 use Rattle.rbg_hall.proofs.HallRunning.{Stands, refusal_for, refusal_by, told_by, run_of, run_stands}
 
 -- what a line has after this was told
@@ -37,7 +38,7 @@ all_bytes tables tolds line (item ∷ items) = by_asked (requested tables item)
     by_asked (Some table) = refl
     by_asked None = append-nil (spelling (refusal_message NoSeat))
 
-pub allowed : {starts : List AbstractTable} {events : List AbstractHallEvent} {state : HallState} {told : List Telling} → Stands starts events state told → IsAllowed starts events (told_to (replicate lines_in_all []) told)
+pub allowed : {starts : List AbstractTable} {events : List AbstractEvent} {state : HallState} {told : List Telling} → Stands starts events state told → IsAllowed starts events (told_to (replicate lines_in_all []) told)
 allowed {starts} {events} {state} {told} stands = record {
   told = told_of stands.tolds;
   by_table = by_table;

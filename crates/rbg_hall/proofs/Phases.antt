@@ -1,7 +1,8 @@
 -- A table plays on.
 use Rattle.std.proofs.Common.{◌≡◌, ℕ, List, Option, Some, Result, refl, sym, subst, OnOk}
 use Rattle.rbg_match.specs.declared.config.Config.{Config}
-use Rattle.rbg_match.proofs.Common.{AbstractEvent, MatchState}
+use Rattle.rbg_match.proofs.Common.{MatchState}
+use Rattle.rbg_script.specs.Events.{AbstractEvent}
 use Rattle.rbg_hall.proofs.TableCommon.{Phase, Begun, TableState, PlaysFor, game_in, begun_in, StepsFor}
 use Rattle.rbg_hall.proofs.Seated.{ok_so, plays_for}
 

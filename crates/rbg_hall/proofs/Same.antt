@@ -6,14 +6,15 @@ use Rattle.rbg_match.specs.Limits.{message_limit}
 use Rattle.rbg_hall.proofs.TableCommon.{lines_in_all, HallOf, OwnEvent, TableRun, Telling, bytes_to}
 use Rattle.rbg_hall.proofs.Alike.{one_table}
 use Rattle.rbg_hall.proofs.Places.{there_within}
-use Rattle.rbg_hall.proofs.Common.{IsAllowed, bytes_by, bytes_for, asks_for, concerning, AbstractHallEvent, AbstractTable, LinesHaveTheSameBytes, TablesAreApart, sent_by, stream_of, first_request, MayBeTables, own, requested, is_for}
+use Rattle.rbg_hall.proofs.Common.{IsAllowed, bytes_by, bytes_for, asks_for, concerning, AbstractTable, LinesHaveTheSameBytes, TablesAreApart, sent_by, stream_of, first_request, MayBeTables, own, requested, is_for}
+use Rattle.rbg_script.specs.Events.{AbstractEvent}
 use Rattle.rbg_hall.proofs.Apart.{chosen_other, chosen_same, dropped_sent, first_true, kept_sent, nothing_asked, second_true}
 use Rattle.rbg_hall.proofs.Counts.{same_own}
 use Rattle.rbg_hall.proofs.Growing.{by_test}
 use Rattle.rbg_hall.proofs.Owning.{asks_in}
 
 -- A line that asks for the table here asks for it there too.
-asked_there : (tables counted table line : ℕ) (events others : List AbstractHallEvent) → concerning tables table events ≡ concerning counted table others → asks_for tables table line events ≡ true → asks_for counted table line others ≡ true
+asked_there : (tables counted table line : ℕ) (events others : List AbstractEvent) → concerning tables table events ≡ concerning counted table others → asks_for tables table line events ≡ true → asks_for counted table line others ≡ true
 asked_there tables counted table line events others same asked = by_test (asks_for counted table line others)
     (λ it. it)
     (λ unasked.
@@ -46,7 +47,7 @@ few : (starts : List AbstractTable) → MayBeTables starts → length starts < 2
 few starts may = omega (arith, may.1)
 
 -- the table hears the same in both halls
-own_there : (starts others : List AbstractTable) (index : ℕ) (start : AbstractTable) (events elsewhere : List AbstractHallEvent) → MayBeTables starts → MayBeTables others → slice_get starts index ≡ Some start → slice_get others index ≡ Some start → concerning (length starts) (index + 1) events ≡ concerning (length others) (index + 1) elsewhere → own (length starts) (index + 1) events ≡ own (length others) (index + 1) elsewhere
+own_there : (starts others : List AbstractTable) (index : ℕ) (start : AbstractTable) (events elsewhere : List AbstractEvent) → MayBeTables starts → MayBeTables others → slice_get starts index ≡ Some start → slice_get others index ≡ Some start → concerning (length starts) (index + 1) events ≡ concerning (length others) (index + 1) elsewhere → own (length starts) (index + 1) events ≡ own (length others) (index + 1) elsewhere
 own_there starts others index start events elsewhere may may' starting standing same =
     let within = there_within starts index start starting in
     let within' = there_within others index start standing in
@@ -103,7 +104,7 @@ tables_are_apart starts others index start events elsewhere first second mixed m
         ∙ sym (bytes_unasked (length starts) (index + 1) line told here.told (stream_of line events).items (λ other away. chosen_other (other == (index + 1)) (there.told other) (here.told other) away) none))
 
 -- what a line has that asks for a table
-own_bytes : (starts : List AbstractTable) (table line : ℕ) (events : List AbstractHallEvent) (queues : List (List ℕ)) → (one : IsAllowed starts events queues) → asks_for (length starts) table line events ≡ true → slice_index_or queues line [] ≡ bytes_to line (one.told table)
+own_bytes : (starts : List AbstractTable) (table line : ℕ) (events : List AbstractEvent) (queues : List (List ℕ)) → (one : IsAllowed starts events queues) → asks_for (length starts) table line events ≡ true → slice_index_or queues line [] ≡ bytes_to line (one.told table)
 own_bytes starts table line events queues one asked =
     one.by_line line (ltb-true line lines_in_all (first_true (nat_lt line lines_in_all) (asks_in (length starts) table line events) asked))
     ∙ bytes_asked (length starts) table line one.told (stream_of line events).items (second_true (nat_lt line lines_in_all) (asks_in (length starts) table line events) asked)

@@ -1,6 +1,7 @@
 -- A table's match begins and plays.
 use Rattle.std.proofs.Common.{◌≡◌, ℕ, List, [], replicate, Option, Some, None, Result, Ok, Err, true, false, ◌+◌, set, refl, sym, ap, ◌∙◌, subst, slice_get, is_none, OnOk}
-use Rattle.rbg_match.proofs.Common.{AbstractEvent, moment_alone, piece, end_of_stream, MatchState, Steps, seats_of, message_limit}
+use Rattle.rbg_match.proofs.Common.{MatchState, Steps, seats_of, message_limit}
+use Rattle.rbg_script.specs.Events.{AbstractEvent, moment_alone, piece, end_of_stream}
 use Rattle.rbg_rules.specs.Meaning.{AbstractGame}
 use Rattle.std.proofs.lemmas.Bool.{true≢false}
 use Rattle.rbg_wire.specs.declared.message.Reason.TheVariants.{OutOfTurn, NoSeat}

@@ -12,7 +12,8 @@ use Rattle.rbg_hall.proofs.LogSending.{log_sends_what_is_told, run_of}
 use Rattle.rbg_serving.specs.declared.served.ServeError.TheVariants.{Rounds, Memory}
 use Rattle.rbg_serving.proofs.Common.{Heard, event_of, Intake, Handles}
 use Rattle.rbg_serving.specs.Passing as passing
-use Rattle.rbg_hall.proofs.Common.{asks_for, AbstractHallEvent, HeldHall, AbstractTable, HallState, LoggedRun, LogSends, LogsSendWhatIsTold, ServedHallRunsOn, EachWrites, KeptHearsEach, given_at, given_to, kept, log_at, log_of, own, hall_event, hall_events, of_hall}
+use Rattle.rbg_hall.proofs.Common.{asks_for, HeldHall, AbstractTable, HallState, LoggedRun, LogSends, LogsSendWhatIsTold, ServedHallRunsOn, EachWrites, KeptHearsEach, given_at, given_to, kept, log_at, log_of, own, hall_event, hall_events, of_hall}
+use Rattle.rbg_script.specs.Events.{AbstractEvent}
 use Rattle.rbg_hall.specs.Laws as laws
 use Rattle.rbg_hall.specs.Ledgers as ledgers
 use Rattle.rbg_hall.proofs.Apart.{first_true}
@@ -102,13 +103,13 @@ kept_at {told = told} {heard} {table} (suc index) start (one_more {says = says} 
     number = omega arith
 
 -- A hall with its logs stands after these events.
-record HallStands {W : Type 0} (told : W → List ℕ → Type 0) (starts : List AbstractTable) (events : List AbstractHallEvent) (state : HallState) (all : List (Ledger W)) (queues : List (List ℕ)) : Type 0 where
+record HallStands {W : Type 0} (told : W → List ℕ → Type 0) (starts : List AbstractTable) (events : List AbstractEvent) (state : HallState) (all : List (Ledger W)) (queues : List (List ℕ)) : Type 0 where
   outgoing : List Telling
   queued : queues ≡ told_to (replicate lines_in_all []) outgoing
   stands : Stands starts events state outgoing
   each : EachKept told (λ table. own (length starts) table events) 1 starts state.tables all stands.tolds
 
-hall_stands : {W : Type 0} {told : W → List ℕ → Type 0} {starts : List AbstractTable} {events : List AbstractHallEvent} {state : HallState} {all : List (Ledger W)} {queues : List (List ℕ)} → LoggedRun told starts events state all queues → HallStands told starts events state all queues
+hall_stands : {W : Type 0} {told : W → List ℕ → Type 0} {starts : List AbstractTable} {events : List AbstractEvent} {state : HallState} {all : List (Ledger W)} {queues : List (List ℕ)} → LoggedRun told starts events state all queues → HallStands told starts events state all queues
 hall_stands {told = told} {starts} laws.none = record {
   outgoing = [];
   queued = sym (told_to-none (replicate lines_in_all []));
@@ -131,7 +132,7 @@ hall_stands {told = told} {starts} {state = state} {all = all} (laws.more {event
     }
 
 -- what is queued for a line on a seat is what its table tells it
-seat_queued : {starts : List AbstractTable} {events : List AbstractHallEvent} {state : HallState} {outgoing : List Telling} {game : AbstractGame} {text : List ℕ} {config : Config} {table : TableState} (stands : Stands starts events state outgoing) (index : ℕ) → TableRun game text config (own (length starts) (1 + index) events) table (get_or stands.tolds index []) → (place line : ℕ) → SitsAt table line place → get_or (told_to (replicate lines_in_all []) outgoing) line [] ≡ bytes_to line (get_or stands.tolds index [])
+seat_queued : {starts : List AbstractTable} {events : List AbstractEvent} {state : HallState} {outgoing : List Telling} {game : AbstractGame} {text : List ℕ} {config : Config} {table : TableState} (stands : Stands starts events state outgoing) (index : ℕ) → TableRun game text config (own (length starts) (1 + index) events) table (get_or stands.tolds index []) → (place line : ℕ) → SitsAt table line place → get_or (told_to (replicate lines_in_all []) outgoing) line [] ≡ bytes_to line (get_or stands.tolds index [])
 seat_queued {starts} {events} {outgoing = outgoing} stands index run place line sits = by_test (asks_for (length starts) (1 + index) line events)
     (λ asked. queued (ltb-true line lines_in_all (first_true (nat_lt line lines_in_all) (asks_in (length starts) (1 + index) line events) asked)) ∙ told_there stands index line asked)
     (λ unasked. absurd ((all_unmoved line run (unasked_lacks (length starts) (1 + index) line events unasked)).0 place sits))
@@ -178,7 +179,7 @@ logs_send_what_is_told {W} told starts events state all queues run index start t
     same_state a b equal = cc
 
 -- a hall that handles what is heard runs on
-handled_on : {W : Type 0} {told : W → List ℕ → Type 0} {starts : List AbstractTable} {events : List AbstractHallEvent} {lines : ℕ} {old : HeldHall W} {before : List (List ℕ)} {heard : List Heard} {new : HeldHall W} {queued : List (List ℕ)} {since : List Intake} →
+handled_on : {W : Type 0} {told : W → List ℕ → Type 0} {starts : List AbstractTable} {events : List AbstractEvent} {lines : ℕ} {old : HeldHall W} {before : List (List ℕ)} {heard : List Heard} {new : HeldHall W} {queued : List (List ℕ)} {since : List Intake} →
     LoggedRun told starts events old.state old.ledgers before →
     Handles (of_hall told) lines old before heard new queued since →
     LoggedRun told starts (events ++ hall_events heard) new.state new.ledgers queued

@@ -7,7 +7,8 @@ use Rattle.rbg_serving.specs.declared.served.ServeError.{ServeError}
 use Rattle.rbg_serving.specs.declared.served.ServeError.TheVariants.{Rounds, Memory}
 use Rattle.rbg_serving.proofs.Common.{Heard, event_of, Intake, Handles, Extends, ExtendAll, queued_at}
 use Rattle.rbg_serving.specs.Passing as passing
-use Rattle.rbg_hall.proofs.Common.{HeldHall, AbstractTable, HallState, HallHears, AbstractHallEvent, ServedHallIsAllowed, HallStops, HallWrites, IsNewHall, IsServedHall, hall_event, hall_events, of_hall, HasRun, IsOfHall}
+use Rattle.rbg_hall.proofs.Common.{HeldHall, AbstractTable, HallState, HallHears, ServedHallIsAllowed, HallStops, HallWrites, IsNewHall, IsServedHall, hall_event, hall_events, of_hall, HasRun, IsOfHall}
+use Rattle.rbg_script.specs.Events.{AbstractEvent}
 use Rattle.rbg_hall.proofs.Wholes.{run_on, new_run, run_allowed}
 
 -- what each line has after it is told something
@@ -16,13 +17,13 @@ told_extends line [] told index within = ([], refl)
 told_extends line (bytes ∷ others) told zero within = (bytes_to line told, refl)
 told_extends line (bytes ∷ others) told (suc index) within = told_extends (suc line) others told index (omega (arith, within))
 
-pub hearing_extends : {old new : HallState} {event : AbstractHallEvent} {before after : List (List ℕ)} → HallHears old event new before after → ExtendAll before after
+pub hearing_extends : {old new : HallState} {event : AbstractEvent} {before after : List (List ℕ)} → HallHears old event new before after → ExtendAll before after
 hearing_extends {before = before} hears = λ index within.
     subst (λ queues. Extends (queued_at before index) (queued_at queues index)) (sym hears.queued)
     (told_extends 0 before hears.told index within)
 
 -- what the step of a hall answers, as a call hears it
-pub stepped_so : {E W : Type 0} (told : W → List ℕ → Type 0) (old new : HeldHall W) (before after : List (List ℕ)) (result : Result (Unit {0}) E) (heard wanted : AbstractHallEvent) → heard ≡ wanted → new.failed ≡ is_err result → OnOk result (HallWrites told old.state old.ledgers heard new.state new.ledgers before after) → OnOk result (HallWrites told old.state old.ledgers wanted new.state new.ledgers before after × (new.failed ≡ false))
+pub stepped_so : {E W : Type 0} (told : W → List ℕ → Type 0) (old new : HeldHall W) (before after : List (List ℕ)) (result : Result (Unit {0}) E) (heard wanted : AbstractEvent) → heard ≡ wanted → new.failed ≡ is_err result → OnOk result (HallWrites told old.state old.ledgers heard new.state new.ledgers before after) → OnOk result (HallWrites told old.state old.ledgers wanted new.state new.ledgers before after × (new.failed ≡ false))
 stepped_so told old new before after (Ok done) heard wanted same failing writes = (subst (λ event. HallWrites told old.state old.ledgers event new.state new.ledgers before after) same writes, failing)
 stepped_so told old new before after (Err error) heard wanted same failing writes = tt
 
@@ -34,7 +35,7 @@ pub works_so : {E : Type 0} (was failed : Bool) (result : Result (Unit {0}) E) �
 works_so was failed (Ok done) failing = λ _. failing
 works_so was failed (Err error) failing = tt
 
-pub as_many_so : {E : Type 0} (old new : HallState) (event : AbstractHallEvent) (before after : List (List ℕ)) (result : Result (Unit {0}) E) → OnOk result (HallHears old event new before after) → OnErr result (after ≡ before) → length after ≡ length before
+pub as_many_so : {E : Type 0} (old new : HallState) (event : AbstractEvent) (before after : List (List ℕ)) (result : Result (Unit {0}) E) → OnOk result (HallHears old event new before after) → OnErr result (after ≡ before) → length after ≡ length before
 as_many_so old new event before after (Ok done) hears kept = ap length hears.queued ∙ length-told_to before hears.told
 as_many_so old new event before after (Err error) hears kept = ap length kept
 

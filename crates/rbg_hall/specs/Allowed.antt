@@ -6,7 +6,7 @@ use Rattle.rbg_wire.specs.Streams.{Item}
 use Rattle.rbg_hall.specs.TableLimits.{lines_in_all}
 use Rattle.rbg_hall.specs.Tables.{HallOf}
 use Rattle.rbg_hall.specs.Tellings.{Telling, bytes_to}
-use Rattle.rbg_hall.specs.Events.{AbstractHallEvent}
+use Rattle.rbg_script.specs.Events.{AbstractEvent}
 use Rattle.rbg_hall.specs.Halls.{AbstractTable}
 use Rattle.rbg_hall.specs.Lines.{stream_of}
 use Rattle.rbg_hall.specs.Own.{own}
@@ -24,7 +24,7 @@ bytes_for tables told line (item ∷ items) = bytes_by told line (requested tabl
 
 -- These bytes may be queued for the lines of a hall, line 0 first, after these events. Each table tells what it may tell,
 -- given its own events alone. A line has what its table tells it, or one refusal, or nothing.
-pub record IsAllowed (starts : List AbstractTable) (events : List AbstractHallEvent) (queues : List (List ℕ)) : Type 0 where
+pub record IsAllowed (starts : List AbstractTable) (events : List AbstractEvent) (queues : List (List ℕ)) : Type 0 where
   pub told : (table : ℕ) → List Telling
   pub by_table : (index : ℕ) (start : AbstractTable) →
       slice_get starts index ≡ Some start →

@@ -10,7 +10,7 @@ use Rattle.rbg_match.specs.Matches.{MatchState}
 use Rattle.rbg_hall.specs.TableLimits.{lines_in_all}
 use Rattle.rbg_hall.specs.Tables.{TableState, new_table, OwnEvent, Hears}
 use Rattle.rbg_hall.specs.Tellings.{Telling, refusal_to}
-use Rattle.rbg_hall.specs.Events.{AbstractHallEvent, sends, ends, ticks}
+use Rattle.rbg_script.specs.Events.{AbstractEvent, piece, end_of_stream, moment_alone}
 use Rattle.rbg_hall.specs.Lines.{HallLine, silent, asks, over, line_cut}
 use Rattle.rbg_hall.specs.Own.{heard_of}
 use Rattle.rbg_hall.specs.Requests.{requested}
@@ -54,10 +54,10 @@ line_beyond tables (asks table rest) bytes = asks table (cut message_limit rest 
 line_beyond tables over bytes = over
 
 -- The lines after an event: one that sends or ends has changed, and no other.
-abbrev pub lines_after : (tables : ℕ) → List HallLine → AbstractHallEvent → List HallLine
-lines_after tables lines (sends line at bytes) = slice_set lines line (line_beyond tables (line_at lines line) bytes)
-lines_after tables lines (ends line at) = slice_set lines line over
-lines_after tables lines (ticks at) = lines
+abbrev pub lines_after : (tables : ℕ) → List HallLine → AbstractEvent → List HallLine
+lines_after tables lines (piece line at bytes) = slice_set lines line (line_beyond tables (line_at lines line) bytes)
+lines_after tables lines (end_of_stream line at) = slice_set lines line over
+lines_after tables lines (moment_alone at) = lines
 
 -- a line whose first item asks for no table is told that there is no seat
 abbrev pub refused_for : (line : ℕ) → Option ℕ → List Telling
@@ -74,10 +74,10 @@ refused_in tables (asks table rest) line bytes = []
 refused_in tables over line bytes = []
 
 -- what a line is told by no table, where the lines stand so
-abbrev pub refused_by : (tables : ℕ) → (lines : ℕ → HallLine) → AbstractHallEvent → List Telling
-refused_by tables lines (sends line at bytes) = refused_in tables (lines line) line bytes
-refused_by tables lines (ends line at) = []
-refused_by tables lines (ticks at) = []
+abbrev pub refused_by : (tables : ℕ) → (lines : ℕ → HallLine) → AbstractEvent → List Telling
+refused_by tables lines (piece line at bytes) = refused_in tables (lines line) line bytes
+refused_by tables lines (end_of_stream line at) = []
+refused_by tables lines (moment_alone at) = []
 
 -- A table hears these events in turn.
 pub data HearsEach (old : TableState) : List OwnEvent → (new : TableState) → (told : List Telling) → Type 0 where
@@ -101,17 +101,17 @@ pub data EachHears (heard : (table : ℕ) → List OwnEvent) : (table : ℕ) →
 
 -- What an event changes in a hall, and what the lines are told. The line of the event changes, and no other one. Each
 -- table hears what is its own of the event: a table that hears nothing stays as it is, and tells nobody anything.
-pub record HallSteps (old : HallState) (event : AbstractHallEvent) (new : HallState) (told : List Telling) : Type 0 where
+pub record HallSteps (old : HallState) (event : AbstractEvent) (new : HallState) (told : List Telling) : Type 0 where
   pub by_tables : List (List Telling)
   pub tables : EachHears (λ table. heard_of (length old.tables) table (line_at old.lines) event) 1 old.tables new.tables by_tables
   pub lines : new.lines ≡ lines_after (length old.tables) old.lines event
   pub is_told : told ≡ refused_by (length old.tables) (line_at old.lines) event ++ flat_map (λ one. one) by_tables
 
 -- From a hall where nobody sits these events in turn lead to a state of it, and this is told.
-pub data HallRun (starts : List AbstractTable) : List AbstractHallEvent → HallState → (told : List Telling) → Type 0 where
+pub data HallRun (starts : List AbstractTable) : List AbstractEvent → HallState → (told : List Telling) → Type 0 where
   none :
       HallRun starts [] (new_hall starts) []
-  more : {events : List AbstractHallEvent} {event : AbstractHallEvent} {middle new : HallState} {first next : List Telling} →
+  more : {events : List AbstractEvent} {event : AbstractEvent} {middle new : HallState} {first next : List Telling} →
       HallRun starts events middle first →
       HallSteps middle event new next →
       HallRun starts (events ++ event ∷ []) new (first ++ next)

@@ -1,14 +1,13 @@
 -- A table with the log of its match, and what both become when the table hears an event.
-use Rattle.std.specs.Prelude.{◌≡◌, ◌<◌, ◌^◌, ℕ, Bool, true, false, ◌&&◌, List, [], ◌++◌, All, map, Option, Some, None, is_none, if◌then◌else◌}
+use Rattle.std.specs.Prelude.{◌≡◌, ◌<◌, ◌^◌, ℕ, Bool, true, false, ◌&&◌, List, [], ◌++◌, All, Option, Some, None, is_none, if◌then◌else◌}
 use Rattle.rbg_match.specs.declared.config.Config.{Config}
-use Rattle.rbg_match.specs.Inputs.{AbstractEvent}
 use Rattle.rbg_match.specs.Matches.{MatchState}
-use Rattle.rbg_script.specs.Events.{EventHasSpelling}
+use Rattle.rbg_script.specs.Events.{EventHasSpelling, AbstractEvent}
 use Rattle.rbg_hall.specs.Tables.{TableState, OwnEvent, Hears}
 use Rattle.rbg_hall.specs.Tellings.{Telling, told_to}
 use Rattle.rbg_serving.specs.declared.keeping.WriteError.{WriteError}
 use Rattle.rbg_serving.specs.declared.keeping.WriteError.TheVariants.{Memory, Log}
-use Rattle.rbg_serving.specs.Logs.{Appends, AppendsFront, event_lines, first_line, scripted}
+use Rattle.rbg_serving.specs.Logs.{Appends, AppendsFront, event_lines, first_line}
 use Rattle.rbg_hall.specs.declared.standing.Standing.{Standing}
 use Rattle.rbg_hall.specs.declared.standing.Standing.TheVariants.{Works, LogFailed, OutOfMemory}
 use Rattle.rbg_hall.specs.LogLedgers.{IsNoted, IsNotedIn, first_for, heard_at}
@@ -56,7 +55,7 @@ pub record IsWritten {W : Type 0} (told : W → List ℕ → Type 0) (first last
   pub moment : heard_at event < 2 ^ 64
   pub lines : List AbstractEvent
   pub noted : IsNoted old event lines
-  pub spelled : All EventHasSpelling (map scripted lines)
+  pub spelled : All EventHasSpelling lines
   pub appends : Appends told first last
       (event_lines lines ++ first_for (is_none old.begun) new.begun old.config (heard_at event))
 

@@ -20,7 +20,7 @@ use Rattle.rbg_serving.specs.Serving.{Serves}
 use Rattle.rbg_serving.specs.Told.{Told}
 use Rattle.rbg_hall.specs.Allowed.{IsAllowed}
 use Rattle.rbg_hall.specs.Apart.{asks_for, concerning, IsExchanged}
-use Rattle.rbg_hall.specs.Events.{AbstractHallEvent}
+use Rattle.rbg_script.specs.Events.{AbstractEvent}
 use Rattle.rbg_hall.specs.Failing.{HeldHall}
 use Rattle.rbg_hall.specs.Halls.{AbstractTable, HallState, HallRun, new_hall}
 use Rattle.rbg_hall.specs.Ledgers.{HallWrites, given_to, log_at}
@@ -31,14 +31,14 @@ use Rattle.rbg_hall.specs.Serving.{IsServedHall, hall_events, of_hall}
 -- Whatever a hall hears, each line has what it may have.
 abbrev pub RunIsAllowed : Type 0
 RunIsAllowed =
-    (starts : List AbstractTable) (events : List AbstractHallEvent) (state : HallState) (told : List Telling) →
+    (starts : List AbstractTable) (events : List AbstractEvent) (state : HallState) (told : List Telling) →
     HallRun starts events state told →
     IsAllowed starts events (told_to (replicate lines_in_all []) told)
 
 -- Take away all events of lines that ask for another table, or for none: a table hears the same.
 abbrev pub OthersAreUnheard : Type 0
 OthersAreUnheard =
-    (tables table : ℕ) (events : List AbstractHallEvent) →
+    (tables table : ℕ) (events : List AbstractEvent) →
     own tables table (concerning tables table events) ≡ own tables table events
 
 -- Let the same table stand at one place in two halls, of as many tables or not, and let the clock and the lines that ask
@@ -46,7 +46,7 @@ OthersAreUnheard =
 -- what they may have in the other, and nobody else notices.
 abbrev pub TablesAreApart : Type 0
 TablesAreApart =
-    (starts others : List AbstractTable) (index : ℕ) (start : AbstractTable) (events elsewhere : List AbstractHallEvent)
+    (starts others : List AbstractTable) (index : ℕ) (start : AbstractTable) (events elsewhere : List AbstractEvent)
     (first second mixed : List (List ℕ)) →
     MayBeTables starts →
     MayBeTables others →
@@ -63,7 +63,7 @@ TablesAreApart =
 -- same bytes in both.
 abbrev pub LinesHaveTheSameBytes : Type 0
 LinesHaveTheSameBytes =
-    (starts others : List AbstractTable) (index : ℕ) (start : AbstractTable) (events elsewhere : List AbstractHallEvent)
+    (starts others : List AbstractTable) (index : ℕ) (start : AbstractTable) (events elsewhere : List AbstractEvent)
     (first second : List (List ℕ)) →
     MayBeTables starts →
     MayBeTables others →
@@ -103,7 +103,7 @@ pub record HoldsMatch (start : AbstractTable) (heard : List OwnEvent) (seats : L
 -- its seats are told accordingly.
 abbrev pub BegunMatchesHoldTranscripts : Type 0
 BegunMatchesHoldTranscripts =
-    (starts : List AbstractTable) (events : List AbstractHallEvent) (state : HallState) (told : List Telling) →
+    (starts : List AbstractTable) (events : List AbstractEvent) (state : HallState) (told : List Telling) →
     HallRun starts events state told →
     (index : ℕ) (start : AbstractTable) (table : TableState) (playing : MatchState) →
     slice_get starts index ≡ Some start →
@@ -114,15 +114,15 @@ BegunMatchesHoldTranscripts =
 -- From a hall where nobody sits, with no logs, these events in turn lead here, and these bytes are queued for its lines. In
 -- between tables may be given empty logs.
 pub data LoggedRun {W : Type 0} (told : W → List ℕ → Type 0) (starts : List AbstractTable) :
-    List AbstractHallEvent → HallState → List (Ledger W) → (queues : List (List ℕ)) → Type 0 where
+    List AbstractEvent → HallState → List (Ledger W) → (queues : List (List ℕ)) → Type 0 where
   none :
       LoggedRun told starts [] (new_hall starts) (map (λ _. no_log) starts) (replicate lines_in_all [])
-  keeps : {events : List AbstractHallEvent} {state : HallState} {ledgers : List (Ledger W)} {queues : List (List ℕ)} →
+  keeps : {events : List AbstractEvent} {state : HallState} {ledgers : List (Ledger W)} {queues : List (List ℕ)} →
       LoggedRun told starts events state ledgers queues →
       (table : ℕ) (log : W) →
       told log [] →
       LoggedRun told starts events state (given_to state.tables ledgers table log) queues
-  more : {events : List AbstractHallEvent} {event : AbstractHallEvent} {middle new : HallState} {was is : List (Ledger W)}
+  more : {events : List AbstractEvent} {event : AbstractEvent} {middle new : HallState} {was is : List (Ledger W)}
       {before after : List (List ℕ)} →
       LoggedRun told starts events middle was before →
       HallWrites told middle was event new is before after →
@@ -147,7 +147,7 @@ pub record LogSends {W : Type 0} (told : W → List ℕ → Type 0) (log : W) (s
 -- lines on the seats.
 abbrev pub LogsSendWhatIsTold : {W : Type 0} → (told : W → List ℕ → Type 0) → Type 0
 LogsSendWhatIsTold {W} told =
-    (starts : List AbstractTable) (events : List AbstractHallEvent) (state : HallState) (ledgers : List (Ledger W))
+    (starts : List AbstractTable) (events : List AbstractEvent) (state : HallState) (ledgers : List (Ledger W))
     (queues : List (List ℕ)) →
     LoggedRun told starts events state ledgers queues →
     (index : ℕ) (start : AbstractTable) (table : TableState) (playing : MatchState) (log : W) →
@@ -161,7 +161,7 @@ LogsSendWhatIsTold {W} told =
 -- A hall that is served has heard what was heard in the call after what it heard before, unless memory ran out.
 abbrev pub ServedHallRunsOn : {W : Type 0} → (told : W → List ℕ → Type 0) → Type 0
 ServedHallRunsOn {W} told =
-    (starts : List AbstractTable) (events : List AbstractHallEvent) (rounds : ℕ) (before after : List Told)
+    (starts : List AbstractTable) (events : List AbstractEvent) (rounds : ℕ) (before after : List Told)
     (moments : List ℕ) (old new : HeldHall W) (queued_before queued : List (List ℕ)) (result : Result Served ServeError) →
     LoggedRun told starts events old.state old.ledgers queued_before →
     (serves : Serves (of_hall told) rounds before after moments old new queued_before queued result) →

@@ -5,7 +5,7 @@ use Rattle.rbg_hall.specs.Tellings.{Telling}
 use Rattle.rbg_hall.specs.declared.standing.Standing.TheVariants.{LogFailed}
 use Rattle.rbg_hall.specs.Kept.{KeptFails, KeptHears, KeptState, Ledger, given, told_log}
 use Rattle.rbg_hall.specs.LogLedgers.{HasLog}
-use Rattle.rbg_hall.specs.Events.{AbstractHallEvent}
+use Rattle.rbg_script.specs.Events.{AbstractEvent}
 use Rattle.rbg_hall.specs.Halls.{HallState, line_at}
 use Rattle.rbg_hall.specs.Hearing.{HallHears}
 use Rattle.rbg_hall.specs.Own.{heard_of}
@@ -97,7 +97,7 @@ pub data EachBecomes {W : Type 0} (told : W → List ℕ → Type 0) :
 
 -- A hall and its ledgers hear an event: each table's own part of it is written before the match handles it. What the lines
 -- are told follows what each had.
-pub record HallWrites {W : Type 0} (told : W → List ℕ → Type 0) (old : HallState) (was : List (Ledger W)) (event : AbstractHallEvent)
+pub record HallWrites {W : Type 0} (told : W → List ℕ → Type 0) (old : HallState) (was : List (Ledger W)) (event : AbstractEvent)
     (new : HallState) (is : List (Ledger W)) (before after : List (List ℕ)) : Type 0 where
   pub hears : HallHears old event new before after
   pub each : EachWrites told (λ table. heard_of (length old.tables) table (line_at old.lines) event) 1 old.tables was new.tables is

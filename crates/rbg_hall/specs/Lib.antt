@@ -14,7 +14,6 @@ pub mod LogLedgers
 pub mod Allowed
 pub mod Apart
 pub mod Due
-pub mod Events
 pub mod Failing
 pub mod Halls
 pub mod Hearing

@@ -3,7 +3,7 @@ use Rattle.std.specs.Prelude.{ℕ, ◌==◌, nat_lt, Bool, true, false, List, []
 use Rattle.rbg_wire.specs.Streams.{Item, Rest, incomplete, Cut, cut}
 use Rattle.rbg_match.specs.Limits.{message_limit}
 use Rattle.rbg_hall.specs.TableLimits.{lines_in_all}
-use Rattle.rbg_hall.specs.Events.{AbstractHallEvent, sends, ends, ticks}
+use Rattle.rbg_script.specs.Events.{AbstractEvent, piece, end_of_stream, moment_alone}
 use Rattle.rbg_hall.specs.Requests.{requested}
 
 -- A line, with the part of its next message that has come.
@@ -26,21 +26,21 @@ line_cut tables [] rest = silent rest
 line_cut tables (item ∷ items) rest = asking (requested tables item) rest
 
 -- what a line sends before it ends
-abbrev pub sent_by : (line : ℕ) → List AbstractHallEvent → List ℕ
+abbrev pub sent_by : (line : ℕ) → List AbstractEvent → List ℕ
 sent_by line [] = []
-sent_by line (sends other at bytes ∷ events) = (if other == line then bytes else []) ++ sent_by line events
-sent_by line (ends other at ∷ events) = if other == line then [] else sent_by line events
-sent_by line (ticks at ∷ events) = sent_by line events
+sent_by line (piece other at bytes ∷ events) = (if other == line then bytes else []) ++ sent_by line events
+sent_by line (end_of_stream other at ∷ events) = if other == line then [] else sent_by line events
+sent_by line (moment_alone at ∷ events) = sent_by line events
 
 -- whether a line has ended
-abbrev pub has_ended : (line : ℕ) → List AbstractHallEvent → Bool
+abbrev pub has_ended : (line : ℕ) → List AbstractEvent → Bool
 has_ended line [] = false
-has_ended line (sends other at bytes ∷ events) = has_ended line events
-has_ended line (ends other at ∷ events) = if other == line then true else has_ended line events
-has_ended line (ticks at ∷ events) = has_ended line events
+has_ended line (piece other at bytes ∷ events) = has_ended line events
+has_ended line (end_of_stream other at ∷ events) = if other == line then true else has_ended line events
+has_ended line (moment_alone at ∷ events) = has_ended line events
 
 -- all that a line sent, cut into items
-abbrev pub stream_of : (line : ℕ) → List AbstractHallEvent → Cut
+abbrev pub stream_of : (line : ℕ) → List AbstractEvent → Cut
 stream_of line events = cut message_limit (incomplete []) (sent_by line events)
 
 -- the table, of so many, for which a line with these items asks
@@ -49,7 +49,7 @@ first_request tables [] = None
 first_request tables (item ∷ items) = requested tables item
 
 -- what a line of a hall with so many tables is after these events; nothing is heard of a line above the last
-abbrev pub line_after : (tables line : ℕ) → List AbstractHallEvent → HallLine
+abbrev pub line_after : (tables line : ℕ) → List AbstractEvent → HallLine
 line_after tables line events =
     if has_ended line events then over
     else if nat_lt line lines_in_all then line_cut tables (stream_of line events).items (stream_of line events).rest

@@ -3,7 +3,7 @@ use Rattle.std.specs.Prelude.{◌≡◌, ℕ, Bool, true, false, List, [], ◌�
 use Rattle.rbg_game.specs.Loading.{Loads}
 use Rattle.rbg_rules.specs.Meaning.{AbstractGame}
 use Rattle.rbg_match.specs.declared.config.Config.{Config}
-use Rattle.rbg_match.specs.Inputs.{AbstractEvent}
+use Rattle.rbg_script.specs.Events.{AbstractEvent}
 use Rattle.rbg_match.specs.Matches.{MatchState}
 use Rattle.rbg_hall.specs.TableLaws.{Hands}
 use Rattle.rbg_hall.specs.Tables.{TableState, OwnEvent, new_table, clock, joins, arrives, says, leaves}

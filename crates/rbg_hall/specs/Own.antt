@@ -3,7 +3,7 @@ use Rattle.std.specs.Prelude.{ℕ, ◌==◌, List, [], ◌∷◌, ◌++◌, map,
 use Rattle.rbg_wire.specs.Streams.{Item, cut}
 use Rattle.rbg_match.specs.Limits.{message_limit}
 use Rattle.rbg_hall.specs.Tables.{OwnEvent, clock, joins, arrives, says, leaves}
-use Rattle.rbg_hall.specs.Events.{AbstractHallEvent, sends, ends, ticks}
+use Rattle.rbg_script.specs.Events.{AbstractEvent, piece, end_of_stream, moment_alone}
 use Rattle.rbg_hall.specs.Lines.{HallLine, silent, asks, over, line_after}
 use Rattle.rbg_hall.specs.Requests.{is_for, requested}
 
@@ -27,18 +27,18 @@ heard_of_end table (asks other rest) line at = if other == table then leaves lin
 heard_of_end table over line at = []
 
 -- What a table hears of an event, where the lines stand so. The clock is heard by each table.
-abbrev pub heard_of : (tables table : ℕ) → (lines : ℕ → HallLine) → AbstractHallEvent → List OwnEvent
-heard_of tables table lines (sends line at bytes) = heard_of_piece tables table (lines line) line at bytes
-heard_of tables table lines (ends line at) = heard_of_end table (lines line) line at
-heard_of tables table lines (ticks at) = clock at ∷ []
+abbrev pub heard_of : (tables table : ℕ) → (lines : ℕ → HallLine) → AbstractEvent → List OwnEvent
+heard_of tables table lines (piece line at bytes) = heard_of_piece tables table (lines line) line at bytes
+heard_of tables table lines (end_of_stream line at) = heard_of_end table (lines line) line at
+heard_of tables table lines (moment_alone at) = clock at ∷ []
 
 -- What a table hears of events, where these came before.
-abbrev pub own_after : (tables table : ℕ) → (before : List AbstractHallEvent) → List AbstractHallEvent → List OwnEvent
+abbrev pub own_after : (tables table : ℕ) → (before : List AbstractEvent) → List AbstractEvent → List OwnEvent
 own_after tables table before [] = []
 own_after tables table before (event ∷ events) =
     heard_of tables table (λ line. line_after tables line before) event
     ++ own_after tables table (before ++ event ∷ []) events
 
 -- All that one of so many tables hears of these events, from the first on.
-abbrev pub own : (tables table : ℕ) → List AbstractHallEvent → List OwnEvent
+abbrev pub own : (tables table : ℕ) → List AbstractEvent → List OwnEvent
 own tables table events = own_after tables table [] events

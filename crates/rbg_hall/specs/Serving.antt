@@ -1,6 +1,6 @@
 -- A hall as a call of `run` knows it. Seat 1 of such a call is line 0 of the hall.
 use Rattle.std.specs.Prelude.{◌≡◌, ◌-◌, ℕ, Bool, true, false, List, [], ◌++◌, All, Option, Some, None, is_some, Result, IsErrOf, map, slice_get}
-use Rattle.rbg_match.specs.Inputs.{AbstractEvent, piece, end_of_stream, moment_alone}
+use Rattle.rbg_script.specs.Events.{AbstractEvent, piece, end_of_stream, moment_alone}
 use Rattle.rbg_match.specs.Matches.{MatchState}
 use Rattle.rbg_hall.specs.Tables.{TableState, HasSeat}
 use Rattle.rbg_serving.specs.declared.served.Served.{Served}
@@ -8,7 +8,6 @@ use Rattle.rbg_serving.specs.declared.served.ServeError.{ServeError}
 use Rattle.rbg_serving.specs.declared.served.ServeError.TheVariants.{Memory}
 use Rattle.rbg_serving.specs.Heard.{Heard, event_of}
 use Rattle.rbg_serving.specs.Passing.{Behaviour}
-use Rattle.rbg_hall.specs.Events.{AbstractHallEvent, sends, ends, ticks}
 use Rattle.rbg_hall.specs.Failing.{HeldHall}
 use Rattle.rbg_hall.specs.Halls.{AbstractTable, HallState, line_at}
 use Rattle.rbg_hall.specs.Ledgers.{HallStops, HallWrites}
@@ -16,13 +15,13 @@ use Rattle.rbg_hall.specs.Lines.{HallLine, silent, asks, over}
 use Rattle.rbg_hall.specs.Wholes.{IsOfHall}
 
 -- what a hall hears where a call hears this
-abbrev pub hall_event : AbstractEvent → AbstractHallEvent
-hall_event (piece seat at bytes) = sends (seat - 1) at bytes
-hall_event (end_of_stream seat at) = ends (seat - 1) at
-hall_event (moment_alone at) = ticks at
+abbrev pub hall_event : AbstractEvent → AbstractEvent
+hall_event (piece seat at bytes) = piece (seat - 1) at bytes
+hall_event (end_of_stream seat at) = end_of_stream (seat - 1) at
+hall_event (moment_alone at) = moment_alone at
 
 -- the same of all that a call has heard
-abbrev pub hall_events : List Heard → List AbstractHallEvent
+abbrev pub hall_events : List Heard → List AbstractEvent
 hall_events heard = map (λ one. hall_event (event_of one)) heard
 
 -- whether a match has begun and ended

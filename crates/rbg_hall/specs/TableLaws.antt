@@ -8,7 +8,8 @@ use Rattle.rbg_wire.specs.Whole.{whole_item}
 use Rattle.rbg_rules.specs.Meaning.{IsNumbered, AbstractGame}
 use Rattle.rbg_match.specs.declared.config.Config.{Config}
 use Rattle.rbg_match.specs.Deliveries.{Delivery, bytes_for}
-use Rattle.rbg_match.specs.Inputs.{AbstractEvent, piece, end_of_stream, moment_alone, counted_first}
+use Rattle.rbg_match.specs.Inputs.{counted_first}
+use Rattle.rbg_script.specs.Events.{AbstractEvent, piece, end_of_stream, moment_alone}
 use Rattle.rbg_match.specs.Laws.{IsHeavyEnd, keeper_pairs}
 use Rattle.rbg_match.specs.Limits.{message_limit}
 use Rattle.rbg_match.specs.Matches.{MatchState}

@@ -1,31 +1,34 @@
 //! A hall as something that can be served.
 ghost use Rattle.std.specs.Prelude.{◌≡◌};
-ghost use Rattle.rbg_match.specs.Inputs.{event_of as match_event};
-ghost use Rattle.rbg_hall.specs.Events.{event_of};
+ghost use Rattle.rbg_script.specs.Events.{event_of};
 ghost use Rattle.rbg_hall.specs.Serving.{hall_event};
 
+use crate::Hall;
 use crate::queues::HallOut;
-use crate::{Hall, HallEvent};
 use rbg_base::Memory;
-use rbg_match::Event;
+use rbg_script::Event;
 use rbg_serving::{Engine, Log};
 use std::alloc::Global;
 
 /// What a hall hears where the line of a seat is heard. Seat 1 is line 0.
-fn hall_event(event: Event<'_>) -> HallEvent<'_>
-    ensures { event_of result ≡ hall_event (match_event event.entry) }
+fn hall_event(event: Event<&[u8]>) -> Event<&[u8]>
+    ensures { event_of result ≡ hall_event (event_of event.entry) }
 {
     match event {
-        Event::Piece { seat, at, bytes } => HallEvent::Piece {
-            line: seat.saturating_sub(1),
+        Event::Piece {
+            source: seat,
+            at,
+            bytes,
+        } => Event::Piece {
+            source: seat.saturating_sub(1),
             at,
             bytes,
         },
-        Event::Ended { seat, at } => HallEvent::Ended {
-            line: seat.saturating_sub(1),
+        Event::Ended { source: seat, at } => Event::Ended {
+            source: seat.saturating_sub(1),
             at,
         },
-        Event::Tick { at } => HallEvent::Tick { at },
+        Event::Tick { at } => Event::Tick { at },
     }
 }
 
@@ -51,7 +54,7 @@ impl<W: Log> Engine for Hall<W> {
 
     ghost first_due = { λ hall due. IsFirstDue hall.state.tables due };
 
-    fn handle(&mut self, event: Event<'_>, outbox: &mut HallOut) -> Result<(), Memory> {
+    fn handle(&mut self, event: Event<&[u8]>, outbox: &mut HallOut) -> Result<(), Memory> {
         self.step(hall_event(event), outbox)
     }
 

@@ -1,15 +1,15 @@
 //! What a hall does at an event.
 ghost use Rattle.std.specs.Prelude.{◌≡◌, length, option_copied, OnErr, OnOk};
-ghost use Rattle.rbg_hall.specs.Events.{event_of};
+ghost use Rattle.rbg_script.specs.Events.{event_of};
 ghost use Rattle.rbg_hall.specs.internal.Hearing.{KeptStops, KeptWrites, said_by};
 ghost use Rattle.rbg_hall.specs.internal.Parts.{AreReady};
 
-use crate::HallEvent;
 use crate::hearing::{hear_end, hear_piece, tick};
 use crate::kept_table::KeptTable;
 use crate::line::{LinePhase, Speaker};
 use crate::queues::Queues;
 use rbg_base::Memory;
+use rbg_script::Event;
 use rbg_serving::Log;
 use std::mem::replace;
 
@@ -17,7 +17,7 @@ use std::mem::replace;
 pub(crate) fn hear_event<W: Log>(
     tables: &mut [KeptTable<W>],
     lines: &mut [LinePhase],
-    event: HallEvent<'_>,
+    event: Event<&[u8]>,
     out: &mut Queues,
 ) -> Result<(), Memory>
     requires { AreReady (length tables.old) lines.old }
@@ -29,13 +29,15 @@ pub(crate) fn hear_event<W: Log>(
     ensures committed { out.new.committed ≡ out.old.committed }
 {
     match event {
-        HallEvent::Piece { line, at, bytes } => {
-            hear_line(tables, lines, Speaker { line, at }, Some(bytes), out)
-        }
-        HallEvent::Ended { line, at } => {
+        Event::Piece {
+            source: line,
+            at,
+            bytes,
+        } => { hear_line(tables, lines, Speaker { line, at }, Some(bytes), out) }
+        Event::Ended { source: line, at } => {
             hear_line(tables, lines, Speaker { line, at }, None, out)
         }
-        HallEvent::Tick { at } => tick(tables, at, out),
+        Event::Tick { at } => tick(tables, at, out),
     }
 }
 

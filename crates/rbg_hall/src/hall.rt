@@ -4,7 +4,7 @@ ghost use Rattle.rbg_wire.specs.Streams.{incomplete};
 ghost use Rattle.rbg_match.specs.Matches.{HasHistory};
 ghost use Rattle.rbg_hall.specs.TableLimits.{lines_in_all};
 ghost use Rattle.rbg_hall.specs.Due.{IsFirstDue};
-ghost use Rattle.rbg_hall.specs.Events.{event_of};
+ghost use Rattle.rbg_script.specs.Events.{event_of};
 ghost use Rattle.rbg_hall.specs.Halls.{begun_at};
 ghost use Rattle.rbg_hall.specs.Hearing.{HallHears};
 ghost use Rattle.rbg_hall.specs.Ledgers.{HallStops, HallWrites, HasLogFailed, IsLogAt, given_to, log_at};
@@ -23,9 +23,10 @@ use crate::numbered::{keep_log, log_of, match_of};
 use crate::opening::{faulty, new_lines, open_tables};
 use crate::queues::HallOut;
 use crate::speaking::may_speak;
-use crate::{HallError, HallEvent, Table};
+use crate::{HallError, Table};
 use rbg_base::Memory;
 use rbg_match::Match;
+use rbg_script::Event;
 use rbg_serving::Log;
 use std::alloc::Global;
 use std::marker::Model;
@@ -107,9 +108,9 @@ impl<W: Log> Hall<W> {
         Ok((made, out))
     }
 
-    /// Hears an event, and queues what the lines are told. A refusal leaves the queues as they were, and the hall answers
-    /// `Memory` from then on.
-    pub fn step(&mut self, event: HallEvent<'_>, out: &mut HallOut) -> Result<(), Memory>
+    /// Hears an event, and queues what the lines are told. An event of a line above the last does nothing. A refusal leaves
+    /// the queues as they were, and the hall answers `Memory` from then on.
+    pub fn step(&mut self, event: Event<&[u8]>, out: &mut HallOut) -> Result<(), Memory>
         ensures hears { OnOk result (HallHears self.old.state (event_of event.entry) self.new.state out.old out.new) }
         ensures writes { OnOk result (HallWrites W.told self.old.state self.old.ledgers (event_of event.entry)
             self.new.state self.new.ledgers out.old out.new) }

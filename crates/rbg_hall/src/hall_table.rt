@@ -17,8 +17,9 @@ use crate::line::Speaker;
 use crate::queues::Queues;
 use crate::running::Running;
 use rbg_base::Memory;
-use rbg_match::{Arrival, Config, Event, Match};
+use rbg_match::{Arrival, Config, Match};
 use rbg_rules::Game;
+use rbg_script::Event;
 use rbg_serving::Opening;
 use rbg_wire::{Reason, Took};
 use std::alloc::Global;
@@ -295,7 +296,7 @@ impl HallTable {
             return Ok(());
         }
         let end = Event::Ended {
-            seat: index as u64 + 1,
+            source: index as u64 + 1,
             at,
         };
         self.play(Arrival::Plain(end), out)

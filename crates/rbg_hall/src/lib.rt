@@ -6,7 +6,6 @@ mod due;
 mod ending;
 mod engine;
 mod error;
-mod event;
 mod events;
 mod hall;
 mod hall_table;
@@ -30,7 +29,6 @@ pub mod table_laws;
 mod whole;
 
 pub use error::HallError;
-pub use event::HallEvent;
 pub use hall::{Hall, TABLES};
 pub use queues::{HallOut, LINES};
 pub use table::Table;

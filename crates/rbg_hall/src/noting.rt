@@ -11,7 +11,8 @@ ghost use Rattle.rbg_hall.specs.internal.TableHearing.{IsSeatOf};
 use crate::hall_table::HallTable;
 use crate::input::TableInput;
 use crate::queues::Queues;
-use rbg_match::{Arrival, Config, Event};
+use rbg_match::{Arrival, Config};
+use rbg_script::Event;
 use rbg_serving::{Log, WriteError, write_arrival, write_first};
 
 /// The moment at which a table hears something.
@@ -78,7 +79,7 @@ fn note<W: Log>(
         TableInput::Leaves { at, .. } => match seat {
             Some(index) => {
                 let end = Event::Ended {
-                    seat: index as u64 + 1,
+                    source: index as u64 + 1,
                     at,
                 };
                 write_for(table, Arrival::Plain(end), log, line)

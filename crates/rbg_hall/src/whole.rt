@@ -1,13 +1,14 @@
 //! A whole hall, from its tables and a list of events to the bytes of each line.
 ghost use Rattle.std.specs.Prelude.{◌++◌, List, map, IfErr, IfOk, OnOk};
-ghost use Rattle.rbg_hall.specs.Events.{AbstractHallEvent, event_of};
+ghost use Rattle.rbg_script.specs.Events.{AbstractEvent, event_of};
 ghost use Rattle.rbg_hall.specs.Halls.{AbstractTable};
 ghost use Rattle.rbg_hall.specs.Openings.{AreLoaded, IsRefusedHall, starts_of};
 ghost use Rattle.rbg_hall.specs.Wholes.{HasRun, IsOfHall};
 
 use crate::queues::HallOut;
-use crate::{Hall, HallError, HallEvent, Table};
+use crate::{Hall, HallError, Table};
 use rbg_base::Memory;
+use rbg_script::Event;
 use rbg_serving::{BoundedLog, Log};
 use std::alloc::Global;
 
@@ -15,7 +16,7 @@ use std::alloc::Global;
 pub fn whole_hall(
     alloc: Global,
     tables: Vec<Table>,
-    events: &[HallEvent<'_>],
+    events: &[Event<&[u8]>],
 ) -> Result<HallOut, HallError>
     requires { AreLoaded tables.items }
     ensures allowed { IfOk result (IsOfHall (starts_of tables.items) (map event_of events.now)) }
@@ -29,10 +30,10 @@ pub fn whole_hall(
 /// Hears the events in turn.
 fn hear_all<W: Log>(
     hall: &mut Hall<W>,
-    events: &[HallEvent<'_>],
+    events: &[Event<&[u8]>],
     out: &mut HallOut,
 ) -> Result<(), Memory>
-    ensures { (starts : List AbstractTable) (earlier : List AbstractHallEvent) →
+    ensures { (starts : List AbstractTable) (earlier : List AbstractEvent) →
         HasRun starts earlier hall.old.state out.old →
         OnOk result (HasRun starts (earlier ++ map event_of events.now) hall.new.state out.new) }
 {

@@ -8,23 +8,34 @@ use rbg_match::{Match, Outbox};
 use rbg_serving::{Clock, Line, Log, LoggedMatch, ServeError};
 use std::alloc::AllocError;
 
-/// Serves a match from this moment on.
+/// A match that goes on from a moment.
+#[derive(Drop)]
+pub(crate) struct MatchInPlay<W: Log> {
+    pub(crate) logged: LoggedMatch<W>,
+    /// What its seats are sent.
+    pub(crate) outbox: Outbox,
+    pub(crate) moment: u64,
+}
+
+/// Serves a match from its moment on.
 pub(crate) fn play_on<W: Log, L: Line, C: Clock>(
-    logged: LoggedMatch<W>,
+    in_play: MatchInPlay<W>,
     serving: &Serving<'_>,
-    now: u64,
     lines: &mut [L],
-    outbox: &mut Outbox,
     clock: &mut C,
 ) -> Result<Match, ServingFault>
-    requires lines { length lines.old ≡ seats_of logged.played.game }
-    requires seats { length outbox.old ≡ seats_of logged.played.game }
-    ensures { (text : List ℕ) → IsPlayedMatch text logged.played →
+    requires lines { length lines.old ≡ seats_of in_play.logged.played.game }
+    requires seats { length in_play.outbox ≡ seats_of in_play.logged.played.game }
+    ensures { (text : List ℕ) → IsPlayedMatch text in_play.logged.played →
         IfOk result (λ played. IsPlayedMatch text played) }
 {
-    let mut logged = logged;
-    let rounds = begin_bound(&mut logged, serving, now);
-    serve_rounds(&mut logged, rounds, lines, outbox, clock)?;
+    let MatchInPlay {
+        mut logged,
+        mut outbox,
+        moment,
+    } = in_play;
+    let rounds = begin_bound(&mut logged, serving, moment);
+    serve_rounds(&mut logged, rounds, lines, &mut outbox, clock)?;
     Ok(logged.into_played())
 }
 

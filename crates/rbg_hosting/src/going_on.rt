@@ -28,32 +28,33 @@ use rbg_referee::Answer;
 use rbg_serving::Log;
 use std::alloc::Global;
 
-/// Goes on with the matches of a hall of these descriptions from their logs, which this process takes. A match that has ended
-/// keeps its record, one that hasn't begun begins anew, and the others go on, between players that ask for their seats again.
-/// Returns what `serve_hall` returns. The config is that of the logs.
+/// A hall whose matches are to go on.
+#[derive(Clone, Copy)]
+pub struct ResumedHall<'a> {
+    /// The descriptions of its games.
+    pub descriptions: &'a [Vec<u8>],
+    /// What the names of its logs begin with.
+    pub log: &'a str,
+    pub serving: &'a Serving<'a>,
+}
+
+/// Goes on with the matches of a hall from their logs, which this process takes. A match that has ended keeps its record, one
+/// that hasn't begun begins anew, and the others go on, between players that ask for their seats again. Returns what
+/// `serve_hall` returns. The config is that of the logs.
 pub fn resume_hall<F: Files, N: Network, A: Archive>(
     alloc: Global,
-    descriptions: &[Vec<u8>],
+    resumed: ResumedHall<'_>,
     files: &mut F,
     network: &mut N,
-    name: &str,
-    serving: &Serving<'_>,
     archive: A,
 ) -> (Result<Answer, ServingFault>, A)
-    ensures { A.handed archive [] → IsResumed A.handed N.Clock.told (λ number. F.told files.old (log_name name.now number))
-        serving.now.config (texts_of descriptions.now) (A.wants archive) result.1 result.0 }
+    ensures { A.handed archive [] → IsResumed A.handed N.Clock.told
+        (λ number. F.told files.old (log_name resumed.entry.log.now number))
+        resumed.entry.serving.now.config (texts_of resumed.entry.descriptions.now) (A.wants archive) result.1 result.0 }
 {
     let mut archive = archive;
-    match prepare_again(
-        alloc,
-        descriptions,
-        files,
-        network,
-        name,
-        serving,
-        &mut archive,
-    ) {
-        Ok(again) => play(alloc, network, again, archive, serving),
+    match prepare_again(alloc, resumed, files, network, &mut archive) {
+        Ok(again) => play(alloc, network, again, archive, resumed.serving),
         Err(fault) => (Err(fault), archive),
     }
 }
@@ -61,27 +62,26 @@ pub fn resume_hall<F: Files, N: Network, A: Archive>(
 /// Reads the logs of a hall, and makes the hall, which has not heard them yet.
 fn prepare_again<F: Files, N: Network, A: Archive>(
     alloc: Global,
-    descriptions: &[Vec<u8>],
+    resumed: ResumedHall<'_>,
     files: &mut F,
     network: &mut N,
-    name: &str,
-    serving: &Serving<'_>,
     archive: &mut A,
 ) -> Result<Prepared<N::Log>, ServingFault>
     ensures handed { (so_far : List Handed) → A.handed archive.old so_far → A.handed archive.new so_far }
-    ensures prepared { IfOk result (λ again. IsPreparedAgain serving.now.config (texts_of descriptions.now)
-        (λ number. F.told files.old (log_name name.now number)) (A.wants archive.old)
+    ensures prepared { IfOk result (λ again. IsPreparedAgain
+        resumed.entry.serving.now.config (texts_of resumed.entry.descriptions.now)
+        (λ number. F.told files.old (log_name resumed.entry.log.now number)) (A.wants archive.old)
         again.hall again.out (pasts_in again.pasts.items) again.players.items again.noted.items) }
     ensures as_many { IfOk result (λ again. length again.pasts.items ≤ length again.players.items) }
 {
-    let pasts = read_pasts(alloc, descriptions, files, network, name)?;
-    let config = config_in(pasts.as_slice(), serving.config)?;
-    let tables = tables_of(alloc, descriptions, config)?;
+    let pasts = read_pasts(alloc, resumed.descriptions, files, network, resumed.log)?;
+    let config = config_in(pasts.as_slice(), resumed.serving.config)?;
+    let tables = tables_of(alloc, resumed.descriptions, config)?;
     let players = players_in(alloc, tables.as_slice())?;
     let noted = places_for(alloc, archive, tables.len())?;
     begin_records(archive, noted.len(), true)?;
     let (mut hall, out) = open_hall(alloc, tables)?;
-    keep_again(network, &mut hall, pasts.as_slice(), serving)?;
+    keep_again(network, &mut hall, pasts.as_slice(), resumed.serving)?;
     Ok(Prepared {
         hall,
         out,
@@ -117,6 +117,7 @@ pub(crate) struct Going<'a> {
     pub(crate) pasts: &'a [Past],
     /// How many players each match has.
     pub(crate) players: &'a [u64],
+    pub(crate) serving: &'a Serving<'a>,
 }
 
 /// Lets a hall hear what its logs hold, waits for its players, and goes on with its matches.
@@ -126,7 +127,6 @@ pub(crate) fn go_on<N: Network, A: Archive>(
     recorded: &mut RecordedHall<N::Log, A>,
     out: &mut HallOut,
     going: Going<'_>,
-    serving: &Serving<'_>,
 ) -> Result<(), ServingFault>
     requires { length going.pasts.now ≤ length going.players.now }
     ensures new_ended { going.entry.pasts.now ≡ [] → OnOk result ((starts : List AbstractTable) (past : List AbstractHallEvent) →
@@ -142,7 +142,7 @@ pub(crate) fn go_on<N: Network, A: Archive>(
         (past_from 1 0 going.entry.players.now (pasts_in going.entry.pasts.now)) recorded.new result }
 {
     match replay_all(alloc, recorded, out, going.pasts, going.players) {
-        Ok(()) => play_seated(alloc, network, recorded, out, going, serving),
+        Ok(()) => play_seated(alloc, network, recorded, out, going),
         Err(fault) => Err(recorded.fault_after(fault)),
     }
 }

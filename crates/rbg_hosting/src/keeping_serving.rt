@@ -3,7 +3,7 @@ ghost use Rattle.std.specs.Prelude.{IfOk};
 ghost use Rattle.rbg_hosting.specs.Played.{IsPlayedMatch};
 
 use crate::beginning::serve_text;
-use crate::resuming::resume_text;
+use crate::resuming::{ResumedMatch, resume_text};
 use crate::{Serving, ServingFault};
 use rbg_console::Files;
 use rbg_match::Match;
@@ -22,7 +22,14 @@ pub fn serve_match<F: Files, N: Network>(
     ensures { IfOk result (λ played. IsPlayedMatch text.now played) }
 {
     let played = match serving.keeping.resume {
-        Some(log) => resume_text(alloc, text, files, log, network, serving),
+        Some(log) => {
+            let resumed = ResumedMatch {
+                text,
+                log,
+                serving: &*serving,
+            };
+            resume_text(alloc, resumed, files, network)
+        }
         None => serve_text(alloc, text, network, serving),
     };
     tell_end(network, serving, &played);

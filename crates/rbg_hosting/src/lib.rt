@@ -36,11 +36,11 @@ mod task;
 
 pub use again::resume_match;
 pub use answer::answer_hall;
-pub use beginning::serve_lines;
+pub use beginning::{NewMatch, serve_lines};
 pub use cut::run_cut;
 pub use error::HostingError;
 pub use fault::ServingFault;
-pub use going_on::resume_hall;
+pub use going_on::{ResumedHall, resume_hall};
 pub use hearing::hall_texts;
 pub use keeping_serving::serve_match;
 pub use record::keep_record;

@@ -68,6 +68,14 @@ pub(crate) struct Seats {
     pub(crate) players: u64,
 }
 
+/// What a hall hears of a match that has begun.
+#[derive(Clone, Copy)]
+struct HeardMatch<'a> {
+    /// The text with which each player asks for a seat.
+    asked: &'a [u8],
+    script: &'a Script,
+}
+
 /// Lets a hall hear what the log of a match holds.
 fn replay<W: Log, A: Archive>(
     alloc: Global,
@@ -99,25 +107,30 @@ fn replay_script<W: Log, A: Archive>(
         (script_from (spelling (join_message seats.number)) seats.line seats.players (abstract_script script.now)) result }
 {
     match asking_text(alloc, seats.number) {
-        Ok(asked) => replay_asked(alloc, recorded, out, asked.as_slice(), script, seats),
+        Ok(asked) => {
+            let heard = HeardMatch {
+                asked: asked.as_slice(),
+                script,
+            };
+            replay_asked(alloc, recorded, out, heard, seats)
+        }
         Err(_) => Err(ServingFault::Memory(AllocError)),
     }
 }
 
-/// The same, where each player asks with this text for a seat.
+/// The same, where it is known with which text each player asks for a seat.
 fn replay_asked<W: Log, A: Archive>(
     alloc: Global,
     recorded: &mut RecordedHall<W, A>,
     out: &mut HallOut,
-    asked: &[u8],
-    script: &Script,
+    heard: HeardMatch<'_>,
     seats: Seats,
 ) -> Result<(), ServingFault>
     requires { seats.line + seats.players < 2 ^ 64 }
     ensures { HearsMore A.handed recorded.old recorded.new out.old out.new
-        (script_from asked.now seats.line seats.players (abstract_script script.now)) result }
+        (script_from heard.entry.asked.now seats.line seats.players (abstract_script heard.entry.script.now)) result }
 {
-    match script_events(alloc, asked, seats, script) {
+    match script_events(alloc, heard, seats) {
         Ok(events) => hear_all(recorded, out, events.as_slice()),
         Err(_) => Err(ServingFault::Memory(AllocError)),
     }
@@ -132,17 +145,17 @@ fn asking_text(alloc: Global, number: u64) -> Result<Vec<u8>, AllocError>
     Ok(text)
 }
 
-/// What a hall hears of a script: each player asks with this text for a seat, and then come the script's events.
+/// What a hall hears of a match that has begun: each player asks for a seat, and then come the script's events.
 fn script_events<'a>(
     alloc: Global,
-    asked: &'a [u8],
+    heard: HeardMatch<'a>,
     seats: Seats,
-    script: &'a Script,
 ) -> Result<Vec<HallEvent<'a>>, AllocError>
     requires { seats.line + seats.players < 2 ^ 64 }
     ensures { IfOk result (λ events. map hall_event events.items
-        ≡ script_from asked.now seats.line seats.players (abstract_script script.now)) }
+        ≡ script_from heard.entry.asked.now seats.line seats.players (abstract_script heard.entry.script.now)) }
 {
+    let HeardMatch { asked, script } = heard;
     let mut events = Vec::new(alloc);
     add_asking(asked, seats, script.config.now, &mut events)?;
     add_events(script.events.as_slice(), seats, &mut events)?;

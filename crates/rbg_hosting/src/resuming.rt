@@ -6,7 +6,7 @@ ghost use Rattle.rbg_referee.specs.Matches.{IsScriptPlayed};
 ghost use Rattle.rbg_script.specs.Scripts.{script_of};
 
 use crate::again::resume_match;
-use crate::bounded::play_on;
+use crate::bounded::{MatchInPlay, play_on};
 use crate::joining::{accept_players, tell_names, tell_stalled};
 use crate::record::begin_record;
 use crate::{Serving, ServingFault};
@@ -18,6 +18,16 @@ use rbg_referee::play_script;
 use rbg_script::{Script, read_script};
 use rbg_serving::{LaterClock, Log, LoggedMatch, cut_stumps, whole_lines};
 use std::alloc::Global;
+
+/// A match that is to go on.
+#[derive(Clone, Copy)]
+pub(crate) struct ResumedMatch<'a> {
+    /// The description of its game.
+    pub(crate) text: &'a [u8],
+    /// The name of its log.
+    pub(crate) log: &'a str,
+    pub(crate) serving: &'a Serving<'a>,
+}
 
 /// A match that was stopped, as its log has it.
 #[derive(Drop)]
@@ -34,19 +44,17 @@ struct Stopped {
 /// to the port. A match that has ended is given at once.
 pub(crate) fn resume_text<F: Files, N: Network>(
     alloc: Global,
-    text: &[u8],
+    resumed: ResumedMatch<'_>,
     files: &mut F,
-    name: &str,
     network: &mut N,
-    serving: &Serving<'_>,
 ) -> Result<Match, ServingFault>
-    ensures { IfOk result (λ played. IsPlayedMatch text.now played) }
+    ensures { IfOk result (λ played. IsPlayedMatch resumed.entry.text.now played) }
 {
-    load(alloc, text)?;
-    begin_record(network, &serving.keeping)?;
-    let names = take_log(alloc, network, name, text)?;
-    let script = read_log(alloc, files, name)?;
-    let played = stopped_match(alloc, text, &script)?;
+    load(alloc, resumed.text)?;
+    begin_record(network, &resumed.serving.keeping)?;
+    let names = take_log(alloc, network, resumed.log, resumed.text)?;
+    let script = read_log(alloc, files, resumed.log)?;
+    let played = stopped_match(alloc, resumed.text, &script)?;
     if played.outcome().is_some() {
         return Ok(played);
     }
@@ -56,7 +64,7 @@ pub(crate) fn resume_text<F: Files, N: Network>(
         script,
         names,
     };
-    resume_stopped(alloc, text, stopped, name, network, serving)
+    resume_stopped(alloc, resumed, stopped, network)
 }
 
 /// The script that a log holds, which may be of any size. A last line that isn't whole is left out.
@@ -78,13 +86,11 @@ fn stopped_match(alloc: Global, text: &[u8], script: &Script) -> Result<Match, S
 /// Goes on with a match that was stopped.
 fn resume_stopped<N: Network>(
     alloc: Global,
-    text: &[u8],
+    resumed: ResumedMatch<'_>,
     stopped: Stopped,
-    name: &str,
     network: &mut N,
-    serving: &Serving<'_>,
 ) -> Result<Match, ServingFault>
-    ensures { IfOk result (λ played. IsPlayedMatch text.now played) }
+    ensures { IfOk result (λ played. IsPlayedMatch resumed.entry.text.now played) }
 {
     let Stopped {
         mut script,
@@ -93,58 +99,51 @@ fn resume_stopped<N: Network>(
         names,
     } = stopped;
     cut_stumps(seats, moment, &mut script.events)?;
-    let (logged, outbox) = begin_again(alloc, text, &script, name, network, serving)?;
-    go_on(alloc, network, serving, logged, outbox, moment, &names)
+    let (logged, outbox) = begin_again(alloc, resumed, &script, network)?;
+    let in_play = MatchInPlay {
+        logged,
+        outbox,
+        moment,
+    };
+    go_on(alloc, network, resumed.serving, in_play, &names)
 }
 
 /// The match of a script, with a log that replaces the old one.
 fn begin_again<N: Network>(
     alloc: Global,
-    text: &[u8],
+    resumed: ResumedMatch<'_>,
     script: &Script,
-    name: &str,
     network: &mut N,
-    serving: &Serving<'_>,
 ) -> Result<(LoggedMatch<N::Log>, Outbox), ServingFault>
     ensures resumed { IfOk result (λ made.
-        IsScriptPlayed text.now (script_of script.now) made.0.played made.1) }
-    ensures played { IfOk result (λ made. IsPlayedMatch text.now made.0.played) }
+        IsScriptPlayed resumed.entry.text.now (script_of script.now) made.0.played made.1) }
+    ensures played { IfOk result (λ made. IsPlayedMatch resumed.entry.text.now made.0.played) }
     ensures seats { IfOk result (λ made. length made.1 ≡ seats_of made.0.played.game) }
 {
-    let log = network.rewrite_log(name, serving.keeping.sync)?;
-    let made = resume_match(alloc, text, script, log)?;
-    network.replace_log(name)?;
+    let log = network.rewrite_log(resumed.log, resumed.serving.keeping.sync)?;
+    let made = resume_match(alloc, resumed.text, script, log)?;
+    network.replace_log(resumed.log)?;
     Ok(made)
 }
 
-/// Waits for the players of a match, and goes on with it from this moment. Who plays is told, if that is known.
+/// Waits for the players of a match, and goes on with it from its moment. Who plays is told, if that is known.
 fn go_on<N: Network, W: Log>(
     alloc: Global,
     network: &mut N,
     serving: &Serving<'_>,
-    logged: LoggedMatch<W>,
-    outbox: Outbox,
-    moment: u64,
+    in_play: MatchInPlay<W>,
     names: &Option<String>,
 ) -> Result<Match, ServingFault>
-    requires { length outbox ≡ seats_of logged.played.game }
-    ensures { (text : List ℕ) → IsPlayedMatch text logged.played →
+    requires { length in_play.outbox ≡ seats_of in_play.logged.played.game }
+    ensures { (text : List ℕ) → IsPlayedMatch text in_play.logged.played →
         IfOk result (λ played. IsPlayedMatch text played) }
 {
-    let players = logged.played().players();
+    let players = in_play.logged.played().players();
     let mut lines = accept_players(alloc, network, players, serving)?;
     tell_names(network, serving, names);
     serving.hosting.tell(network, &News::GoesOn);
-    let mut outbox = outbox;
-    let mut clock = LaterClock::new(network.start_clock()?, moment);
-    let played = play_on(
-        logged,
-        serving,
-        moment,
-        lines.as_mut_slice(),
-        &mut outbox,
-        &mut clock,
-    );
+    let mut clock = LaterClock::new(network.start_clock()?, in_play.moment);
+    let played = play_on(in_play, serving, lines.as_mut_slice(), &mut clock);
     tell_stalled(network, serving, lines.as_slice());
     played
 }

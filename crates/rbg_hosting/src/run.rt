@@ -4,7 +4,7 @@ use crate::Serving;
 use crate::answer::answer_hall;
 use crate::archive::open_archive;
 use crate::fault::ServingFault;
-use crate::going_on::resume_hall;
+use crate::going_on::{ResumedHall, resume_hall};
 use crate::reading::{read_all, whole_texts};
 use crate::serving::serve_hall;
 use rbg_console::{Files, Input, MAX_INPUT, Status, read_input, write_text};
@@ -86,7 +86,14 @@ fn serve_texts<F: Files, N: Network>(
 ) -> Result<Answer, ServingFault> {
     let archive = open_archive(network, &serving.keeping)?;
     let (answer, _archive) = match serving.keeping.resume {
-        Some(log) => resume_hall(alloc, descriptions, files, network, log, serving, archive),
+        Some(log) => {
+            let resumed = ResumedHall {
+                descriptions,
+                log,
+                serving: &*serving,
+            };
+            resume_hall(alloc, resumed, files, network, archive)
+        }
         None => serve_hall(alloc, descriptions, network, serving, archive),
     };
     answer

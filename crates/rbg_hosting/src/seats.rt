@@ -23,15 +23,14 @@ pub(crate) fn seat_all<N: Network>(
     network: &mut N,
     hall: &Hall<N::Log>,
     going: Going<'_>,
-    serving: &Serving<'_>,
 ) -> Result<(Vec<StreamLine<N::Stream>>, N::Clock), ServingFault>
     ensures lines { IfOk result (λ made. length made.0.items ≤ lines_in_all) }
     ensures clock { IfOk result (λ made. N.Clock.told made.1 []) }
 {
     replace_logs(network, going.pasts)?;
     let places = places_of(alloc, hall, going.players)?;
-    let lines = fill_places(alloc, network, places.as_slice(), serving)?;
-    tell_matches(network, hall, going, serving);
+    let lines = fill_places(alloc, network, places.as_slice(), going.serving)?;
+    tell_matches(network, hall, going);
     let clock = network.start_clock()?;
     Ok((lines, clock))
 }
@@ -128,17 +127,12 @@ fn are_for_nobody(places: &[LinePlace]) -> bool {
 }
 
 /// Reports of each match that has not ended who sits where, as far as that is known, and that it begins or goes on.
-fn tell_matches<N: Network>(
-    network: &mut N,
-    hall: &Hall<N::Log>,
-    going: Going<'_>,
-    serving: &Serving<'_>,
-) {
+fn tell_matches<N: Network>(network: &mut N, hall: &Hall<N::Log>, going: Going<'_>) {
     for index in 0..going.players.len() {
         let number = index as u64 + 1;
         if let Some(news) = start_news(hall, number) {
-            let hosting = serving.hosting;
-            match serving.keeping.names {
+            let hosting = going.serving.hosting;
+            match going.serving.keeping.names {
                 Some(names) => {
                     tell_match_names(network, hosting, number, names_in(Some(names), index));
                 }

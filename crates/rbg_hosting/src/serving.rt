@@ -85,8 +85,9 @@ pub(crate) fn play<N: Network, A: Archive>(
     let going = Going {
         pasts: pasts.as_slice(),
         players: players.as_slice(),
+        serving: &*serving,
     };
-    let served = go_on(alloc, network, &mut recorded, &mut out, going, serving);
+    let served = go_on(alloc, network, &mut recorded, &mut out, going);
     tell_ends(network, recorded.hall(), matches, &served, serving);
     let answer = answer_of(alloc, &recorded, matches, served);
     (answer, recorded.into_archive())
@@ -99,7 +100,6 @@ pub(crate) fn play_seated<N: Network, A: Archive>(
     recorded: &mut RecordedHall<N::Log, A>,
     out: &mut HallOut,
     going: Going<'_>,
-    serving: &Serving<'_>,
 ) -> Result<(), ServingFault>
     ensures ended { OnOk result ((starts : List AbstractTable) (past : List AbstractHallEvent) →
         HasRun starts past recorded.old.hall.state out.old →
@@ -111,11 +111,12 @@ pub(crate) fn play_seated<N: Network, A: Archive>(
 {
     let since = since_of(recorded.hall(), going.players.len());
     recorded.go_on_from(since);
-    match seat_all(alloc, network, recorded.hall(), going, serving) {
+    match seat_all(alloc, network, recorded.hall(), going) {
         Ok((mut lines, mut clock)) => {
-            let rounds = rounds_of(serving);
+            let rounds = rounds_of(going.serving);
             let served = run_hall(recorded, lines.as_mut_slice(), out, &mut clock, rounds);
-            tell_stalled(network, serving.hosting, lines.as_slice(), going.players);
+            let hosting = going.serving.hosting;
+            tell_stalled(network, hosting, lines.as_slice(), going.players);
             served
         }
         Err(fault) => Err(recorded.fault_after(fault)),

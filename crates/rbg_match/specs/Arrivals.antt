@@ -5,7 +5,8 @@ use Rattle.rbg_wire.specs.Streams.{Rest, incomplete}
 use Rattle.rbg_wire.specs.Whole.{IsCutAlone, whole_item}
 use Rattle.rbg_match.specs.declared.arrival.Arrival.{Arrival}
 use Rattle.rbg_match.specs.declared.arrival.Arrival.TheVariants.{Plain, Item}
-use Rattle.rbg_match.specs.Inputs.{AbstractEvent, piece, event_of, rest_of}
+use Rattle.rbg_match.specs.Inputs.{rest_of}
+use Rattle.rbg_script.specs.Events.{AbstractEvent, piece, event_of}
 use Rattle.rbg_match.specs.Limits.{message_limit}
 
 -- The event that an arrival stands for. An item stands for the piece that holds it and nothing else.

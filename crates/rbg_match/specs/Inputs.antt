@@ -21,21 +21,9 @@ use Rattle.std.specs.Prelude.{
   if◌then◌else◌,
 }
 use Rattle.rbg_wire.specs.Streams.{Rest, incomplete, Cut, cut}
-use Rattle.rbg_match.specs.declared.event.Event.{Event}
-use Rattle.rbg_match.specs.declared.event.Event.TheVariants.{Piece, Ended, Tick}
+use Rattle.rbg_script.specs.Events.{AbstractEvent, piece, end_of_stream, moment_alone, moment_of}
 use Rattle.rbg_match.specs.Handling.{AbstractInput, tick, gone, sent}
 use Rattle.rbg_match.specs.Limits.{message_limit, latest_moment}
-
--- An event, apart from where its bytes are in memory.
-pub data AbstractEvent : Type 0 where
-  piece : (seat at : ℕ) (bytes : List ℕ) → AbstractEvent
-  end_of_stream : (seat at : ℕ) → AbstractEvent
-  moment_alone : (at : ℕ) → AbstractEvent
-
-abbrev pub event_of : Event → AbstractEvent
-event_of (Piece seat at bytes) = piece seat at bytes.now
-event_of (Ended seat at) = end_of_stream seat at
-event_of (Tick at) = moment_alone at
 
 -- An input at its counted moment.
 pub record TimedInput : Type 0 where
@@ -53,9 +41,13 @@ pub record Streams : Type 0 where
 abbrev pub counted : Streams → (at : ℕ) → ℕ
 counted streams at = max streams.moment (min at latest_moment)
 
+-- whether a match of that many seats has this one
+abbrev pub is_seat_in : (seats seat : ℕ) → Bool
+is_seat_in seats seat = nat_le 1 seat && nat_le seat seats
+
 -- whether the match has that seat
 abbrev pub has_seat : List Rest → (seat : ℕ) → Bool
-has_seat rests seat = nat_le 1 seat && nat_le seat (length rests)
+has_seat rests seat = is_seat_in (length rests) seat
 
 -- the end of a seat's stream that is no whole message yet
 abbrev pub rest_of : List Rest → (seat : ℕ) → Rest
@@ -86,12 +78,6 @@ rests_after rests (piece seat at bytes) =
     if has_seat rests seat then slice_set rests (seat - 1) (cut_of rests seat bytes).rest else rests
 rests_after rests (end_of_stream seat at) = rests
 rests_after rests (moment_alone at) = rests
-
--- the moment that an event gives
-abbrev pub moment_of : AbstractEvent → ℕ
-moment_of (piece seat at bytes) = at
-moment_of (end_of_stream seat at) = at
-moment_of (moment_alone at) = at
 
 -- these inputs, each at the same moment
 abbrev pub inputs_at : (moment : ℕ) → List AbstractInput → List TimedInput

@@ -10,7 +10,8 @@ use Rattle.rbg_match.specs.declared.made.Made.{Made}
 use Rattle.rbg_match.specs.Config.{IsWithinLimits}
 use Rattle.rbg_match.specs.Deliveries.{Delivery, to_each, queued}
 use Rattle.rbg_match.specs.History.{IsHistory}
-use Rattle.rbg_match.specs.Inputs.{AbstractEvent, piece, moment_alone, moment_of, counted_first, TimedInput}
+use Rattle.rbg_match.specs.Inputs.{counted_first, TimedInput}
+use Rattle.rbg_script.specs.Events.{AbstractEvent, piece, moment_alone, moment_of}
 use Rattle.rbg_moves.specs.Limits.{most_keeper_moves}
 use Rattle.rbg_match.specs.Matches.{MatchState, Opens, StepsAll}
 use Rattle.rbg_match.specs.Play.{AbstractPlay, mover_of}

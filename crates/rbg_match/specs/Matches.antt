@@ -6,16 +6,8 @@ use Rattle.rbg_match.specs.declared.config.Config.{Config}
 use Rattle.rbg_match.specs.Config.{IsWithinLimits}
 use Rattle.rbg_match.specs.Deliveries.{Delivery, queued, delivered}
 use Rattle.rbg_match.specs.History.{IsHistory}
-use Rattle.rbg_match.specs.Inputs.{
-  AbstractEvent,
-  Streams,
-  counted,
-  counted_first,
-  moment_of,
-  streams_at_start,
-  streams_after,
-  timed_inputs_in,
-}
+use Rattle.rbg_match.specs.Inputs.{Streams, counted, counted_first, streams_at_start, streams_after, timed_inputs_in}
+use Rattle.rbg_script.specs.Events.{AbstractEvent, moment_of}
 use Rattle.rbg_match.specs.Play.{AbstractPlay, play_at_start}
 use Rattle.rbg_match.specs.PlayingOn.{PlaysOn, seats_of}
 use Rattle.rbg_match.specs.Transcript.{HandlesAll, greetings}

@@ -6,7 +6,8 @@ use Rattle.rbg_rules.specs.Meaning.{AbstractGame}
 use Rattle.rbg_match.specs.declared.config.Config.{Config}
 use Rattle.rbg_match.specs.Deliveries.{Delivery, to_seat}
 use Rattle.rbg_match.specs.Handling.{Handles}
-use Rattle.rbg_match.specs.Inputs.{AbstractEvent, TimedInput, counted_first, streams_at_start, timed_inputs_of}
+use Rattle.rbg_match.specs.Inputs.{TimedInput, counted_first, streams_at_start, timed_inputs_of}
+use Rattle.rbg_script.specs.Events.{AbstractEvent}
 use Rattle.rbg_match.specs.Play.{AbstractPlay, play_at_start}
 use Rattle.rbg_match.specs.PlayingOn.{PlaysOn, seats_of}
 

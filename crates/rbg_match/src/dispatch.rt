@@ -1,8 +1,9 @@
 //! How a referee handles an event: the inputs that the event means, in turn.
-ghost use Rattle.std.specs.Prelude.{◌≡◌, ◌≤◌, ◌&&◌, ◌↔◌, nat_le, IsTrue, length, map, OnOk};
+ghost use Rattle.std.specs.Prelude.{◌≡◌, ◌≤◌, ◌↔◌, IsTrue, length, map, OnOk};
 ghost use Rattle.rbg_wire.specs.Streams.{cut};
 ghost use Rattle.rbg_match.specs.Handling.{sent};
-ghost use Rattle.rbg_match.specs.Inputs.{event_of, inputs_in};
+ghost use Rattle.rbg_match.specs.Inputs.{inputs_in, is_seat_in};
+ghost use Rattle.rbg_script.specs.Events.{event_of};
 ghost use Rattle.rbg_match.specs.Limits.{message_limit};
 ghost use Rattle.rbg_match.specs.Play.{due_of};
 ghost use Rattle.rbg_match.specs.PlayingOn.{seats_of};
@@ -10,15 +11,15 @@ ghost use Rattle.rbg_match.specs.internal.Inboxes.{AreReady, HaveTaken, IsQuiet,
 ghost use Rattle.rbg_match.specs.internal.InputOf.{IsSeatOf};
 ghost use Rattle.rbg_match.specs.internal.Replies.{HandlesNow, Replies};
 
-use crate::Event;
 use crate::input::Input;
 use crate::state::Referee;
 use rbg_base::Memory;
+use rbg_script::Event;
 use rbg_wire::Inbox;
 
 /// Whether there is a seat of that number.
 pub(crate) fn is_seat(seat: u64, seats: usize) -> bool
-    ensures value { result ≡ (nat_le 1 seat && nat_le seat seats) }
+    ensures value { result ≡ is_seat_in seats seat }
     ensures range { IsTrue result ↔ ((1 ≤ seat) × (seat ≤ seats)) }
 {
     1 <= seat && seat <= seats as u64
@@ -46,7 +47,7 @@ impl Referee {
     pub(crate) fn handle_event(
         &mut self,
         inboxes: &mut [Inbox],
-        event: Event<'_>,
+        event: Event<&[u8]>,
     ) -> Result<(), Memory>
         requires inboxes { length inboxes.old ≡ seats_of self.old.game }
         requires ready { AreReady inboxes.old }
@@ -58,7 +59,11 @@ impl Referee {
         ensures rests { OnOk result (HaveTaken inboxes.old (event_of event.entry) inboxes.new) }
     {
         match event {
-            Event::Piece { seat, bytes, .. } => {
+            Event::Piece {
+                source: seat,
+                bytes,
+                ..
+            } => {
                 self.handle(Input::Tick)?;
                 if is_seat(seat, inboxes.len()) {
                     let seat = seat as usize;
@@ -67,7 +72,7 @@ impl Referee {
                 }
                 Ok(())
             }
-            Event::Ended { seat, .. } => {
+            Event::Ended { source: seat, .. } => {
                 if is_seat(seat, inboxes.len()) {
                     let seat = seat as usize;
                     self.handle(Input::Gone { seat })

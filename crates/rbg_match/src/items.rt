@@ -1,13 +1,14 @@
 //! How a referee handles what arrives: an event, or an item in place of a piece.
-ghost use Rattle.std.specs.Prelude.{◌≡◌, ◌<◌, ◌≤◌, ◌&&◌, ◌↔◌, false, max, min, nat_le, IsOk, IsTrue, length, OnOk};
+ghost use Rattle.std.specs.Prelude.{◌≡◌, ◌<◌, ◌≤◌, ◌↔◌, false, max, min, IsOk, length, OnOk};
 ghost use Rattle.rbg_wire.specs.Inboxes.{item_of};
 ghost use Rattle.rbg_match.specs.Arrivals.{MayCome, arrival_of};
-ghost use Rattle.rbg_match.specs.Inputs.{inputs_at, inputs_in, moment_of};
+ghost use Rattle.rbg_match.specs.Inputs.{inputs_at, inputs_in, is_seat_in};
+ghost use Rattle.rbg_script.specs.Events.{moment_of};
 ghost use Rattle.rbg_match.specs.Limits.{latest_moment};
 ghost use Rattle.rbg_match.specs.Play.{due_of};
 ghost use Rattle.rbg_match.specs.PlayingOn.{seats_of};
 ghost use Rattle.rbg_match.specs.internal.Inboxes.{AreReady, HaveTaken, IsQuiet, rests_of};
-ghost use Rattle.rbg_match.specs.internal.Items.{is_there, item_inputs};
+ghost use Rattle.rbg_match.specs.internal.Items.{item_inputs};
 ghost use Rattle.rbg_match.specs.internal.Replies.{HandlesNow, Replies};
 ghost use Rattle.rbg_match.specs.internal.Saying.{QueuesMessages};
 ghost use Rattle.rbg_match.specs.Transcript.{HandlesAll};
@@ -25,7 +26,7 @@ impl Referee {
         requires { seats ≡ seats_of self.old.game }
         ensures replies { Replies self.old self.new result (λ referee _.
             HandlesNow (item_inputs seats seat (item_of took.entry)) referee) }
-        ensures quiet { is_there seats seat ≡ false
+        ensures quiet { is_seat_in seats seat ≡ false
             → self.old.moment < due_of self.old.config self.old.play →
             IsOk result }
     {

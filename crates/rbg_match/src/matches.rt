@@ -2,7 +2,8 @@
 ghost use Rattle.std.specs.Prelude.{◌≡◌, ℕ, ◌≤◌, true, IsErr, IsErrOf, IsOk, IfOk, OnOk, OnErr, length};
 ghost use Rattle.rbg_wire.specs.Bytes.{LacksByte};
 ghost use Rattle.rbg_match.specs.Config.{IsWithinLimits};
-ghost use Rattle.rbg_match.specs.Inputs.{event_of, counted_first};
+ghost use Rattle.rbg_match.specs.Inputs.{counted_first};
+ghost use Rattle.rbg_script.specs.Events.{event_of};
 ghost use Rattle.rbg_match.specs.Limits.{latest_moment};
 ghost use Rattle.rbg_match.specs.Matches.{Opens};
 ghost use Rattle.rbg_match.specs.PlayingOn.{seats_of};
@@ -10,10 +11,11 @@ ghost use Rattle.rbg_match.specs.internal.Opening.{match_begun};
 
 use crate::opening::{new_inboxes, referee_at_start};
 use crate::state::Referee;
-use crate::{Arrival, Config, Event, LATEST_MOMENT, Made, MatchError, Outbox};
+use crate::{Arrival, Config, LATEST_MOMENT, Made, MatchError, Outbox};
 use rbg_base::Memory;
 use rbg_moves::{Listed, Over, Place};
 use rbg_rules::Game;
+use rbg_script::Event;
 use rbg_wire::{Inbox, Outcome};
 use std::alloc::Global;
 use std::marker::Model;
@@ -87,7 +89,8 @@ impl Match {
     };
     ghost use Rattle.rbg_match.specs.Config.{IsWithinLimits};
     ghost use Rattle.rbg_match.specs.Arrivals.{MayCome, arrival_of};
-    ghost use Rattle.rbg_match.specs.Inputs.{IsTickAlone, counted, moment_of};
+    ghost use Rattle.rbg_match.specs.Inputs.{IsTickAlone, counted};
+    ghost use Rattle.rbg_script.specs.Events.{moment_of};
     ghost use Rattle.rbg_moves.specs.Answers.{ListsMoves};
     ghost use Rattle.rbg_moves.specs.Listing.{IsListed};
     ghost use Rattle.rbg_rules.specs.Meaning.{IsGame, IsPlaceOf};
@@ -119,7 +122,7 @@ impl Match {
     /// Handles an event. Its messages go to the outbox, which must have the match's seats. After an error the match has
     /// failed, and each further call returns an error. Its game, its config and the moment at which it began never
     /// change.
-    pub fn step(&mut self, event: Event<'_>, outbox: &mut Outbox) -> Result<(), Memory>
+    pub fn step(&mut self, event: Event<&[u8]>, outbox: &mut Outbox) -> Result<(), Memory>
         requires { length outbox.old ≡ seats_of self.old.game }
         ensures ok { OnOk result (Steps self.old (event_of event.entry) self.new outbox.old
             outbox.new) }

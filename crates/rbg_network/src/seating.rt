@@ -27,6 +27,15 @@ const MESSAGE_LIMIT: usize = 4096;
 /// How many may wait for a place. If one more comes, the one who has waited longest leaves.
 const MOST_GUESTS: usize = 128;
 
+/// The players that are waited for.
+#[derive(Clone, Copy)]
+struct Awaited<'a> {
+    /// For whom each line is.
+    places: &'a [LinePlace],
+    /// How they are waited for.
+    hosting: Hosting,
+}
+
 /// Who has connected, and has no place yet.
 #[derive(Drop)]
 struct Guest<S: Read + Write + Drop> {
@@ -60,15 +69,13 @@ pub fn seat_players<N: Network>(
 {
     let mut taken = lines_at_first(alloc, places)?;
     let mut guests = Vec::with_capacity(alloc, MOST_GUESTS)?;
-    let mut clock = network.start_clock()?;
+    let awaited = Awaited { places, hosting };
     fill_places(
         network,
         listener,
-        &mut clock,
-        places,
+        awaited,
         taken.as_mut_slice(),
         &mut guests,
-        hosting,
     )?;
     lines_of(alloc, taken)
 }
@@ -96,33 +103,32 @@ fn line_at_first<S: Read + Write + Drop>(place: LinePlace) -> Option<StreamLine<
     }
 }
 
-/// Waits until each place is taken by a connection that is open, or is for nobody.
+/// Waits until each place is taken by a connection that is open, or is for nobody. A clock begins with it.
 fn fill_places<N: Network>(
     network: &mut N,
     listener: &mut N::Listener,
-    clock: &mut N::Clock,
-    places: &[LinePlace],
+    awaited: Awaited<'_>,
     taken: &mut [Option<StreamLine<N::Stream>>],
     guests: &mut Vec<Guest<N::Stream>>,
-    hosting: Hosting,
 ) -> Result<(), GatherError> {
+    let mut clock = network.start_clock()?;
     for _ in 0..u64::MAX {
-        hear_guests(network, places, taken, guests, hosting);
+        hear_guests(network, awaited, taken, guests);
         if is_full(taken) {
             clock.wait(Pause::Playing { due: Some(0) });
-            free_closed(network, places, taken, hosting);
+            free_closed(network, awaited, taken);
             if is_full(taken) {
                 return Ok(());
             }
         }
-        if is_late(network, clock, hosting) {
+        if is_late(network, &mut clock, awaited.hosting) {
             return Err(GatherError::Absent);
         }
         match network.accept(listener) {
             Ok(stream) => let_in(guests, stream)?,
             Err(error) if is_nothing_yet(&error) => {
-                free_closed(network, places, taken, hosting);
-                clock.wait(hosting.pause());
+                free_closed(network, awaited, taken);
+                clock.wait(awaited.hosting.pause());
             }
             Err(error) => return Err(GatherError::Device(error)),
         }
@@ -146,10 +152,9 @@ fn let_in<S: Read + Write + Drop>(guests: &mut Vec<Guest<S>>, stream: S) -> Resu
 /// Hears what has come from the guests. Who asks for a place gets one that is free, or is told that there is none.
 fn hear_guests<N: Network>(
     network: &mut N,
-    places: &[LinePlace],
+    awaited: Awaited<'_>,
     taken: &mut [Option<StreamLine<N::Stream>>],
     guests: &mut Vec<Guest<N::Stream>>,
-    hosting: Hosting,
 ) {
     for _ in 0..guests.len() {
         if guests.is_empty() {
@@ -158,7 +163,7 @@ fn hear_guests<N: Network>(
         let mut guest = guests.remove(0);
         match guest.hear() {
             Asks::NothingYet => stay(guests, guest),
-            Asks::Seat(number) => seat_guest(network, places, taken, guest, number, hosting),
+            Asks::Seat(number) => seat_guest(network, awaited, taken, guest, number),
             Asks::Other => guest.refuse(),
             Asks::Left => {}
         }
@@ -173,12 +178,12 @@ fn stay<S: Read + Write + Drop>(guests: &mut Vec<Guest<S>>, guest: Guest<S>) {
 /// A guest gets the lowest free place of a match, or is told that there is none.
 fn seat_guest<N: Network>(
     network: &mut N,
-    places: &[LinePlace],
+    awaited: Awaited<'_>,
     taken: &mut [Option<StreamLine<N::Stream>>],
     guest: Guest<N::Stream>,
     number: u64,
-    hosting: Hosting,
 ) {
+    let Awaited { places, hosting } = awaited;
     let Some(index) = free_place(places, taken, number) else {
         guest.refuse();
         return;
@@ -237,20 +242,20 @@ fn seat_at(index: usize, number: u64, places: &[LinePlace]) -> usize {
 /// Frees each place whose connection is closed.
 fn free_closed<N: Network>(
     network: &mut N,
-    places: &[LinePlace],
+    awaited: Awaited<'_>,
     taken: &mut [Option<StreamLine<N::Stream>>],
-    hosting: Hosting,
 ) {
     for index in 0..taken.len() {
         if is_closed(network, &taken[index]) {
             taken[index] = None;
-            tell_left(network, index, places, hosting);
+            tell_left(network, awaited, index);
         }
     }
 }
 
 /// Tells that the place at an index is free again.
-fn tell_left<N: Network>(network: &mut N, index: usize, places: &[LinePlace], hosting: Hosting) {
+fn tell_left<N: Network>(network: &mut N, awaited: Awaited<'_>, index: usize) {
+    let Awaited { places, hosting } = awaited;
     match places.get(index) {
         Some(LinePlace::New(number)) | Some(LinePlace::Known(number)) => {
             let seat = seat_at(index, *number, places);

@@ -1,9 +1,11 @@
 -- Events are handled in turn, until one of them is refused.
 use Rattle.rbg_base.proofs.Common.{◌≡◌, ℕ, ◌+◌, ◌<◌, true, false, List, length, map, take, get_or, Option, Some, None, Result, Ok, Err, Bool, refl, sym, ap, ◌∙◌, is_err, IsOk, OnOk, OnErr, map_more, take-map}
+use Rattle.std.specs.Borrow.{Bor}
 use Rattle.std.proofs.lemmas.Bool.{true≢false, false≢true}
 use Rattle.rbg_wire.specs.declared.outcome.Outcome.{Outcome}
-use Rattle.rbg_match.specs.declared.event.Event.{Event}
-use Rattle.rbg_match.proofs.Common.{seats_of, AbstractEvent, event_of, MatchState, Steps, StepsAll, more}
+use Rattle.rbg_script.specs.declared.event.Event.{Event}
+use Rattle.rbg_match.proofs.Common.{seats_of, MatchState, Steps, StepsAll, more}
+use Rattle.rbg_script.specs.Events.{AbstractEvent, event_of}
 use Rattle.rbg_match.proofs.Delivering.{length-delivered}
 
 -- what a call that handles whether it was refused leaves
@@ -26,11 +28,11 @@ no_outcome None never = refl
 no_outcome (Some one) never = absurd (never one refl)
 
 -- the events so far, and one more
-pub one_more_step : {old middle new : MatchState} {before between after : List (List ℕ)} (events : List Event) (done : ℕ) (d : Event) → done < length events → StepsAll old before (map event_of (take done events)) middle between → Steps middle (event_of (get_or events done d)) new between after → StepsAll old before (map event_of (take (done + 1) events)) new after
+pub one_more_step : {old middle new : MatchState} {before between after : List (List ℕ)} (events : List (Event (Bor (List ℕ)))) (done : ℕ) (d : Event (Bor (List ℕ))) → done < length events → StepsAll old before (map event_of (take done events)) middle between → Steps middle (event_of (get_or events done d)) new between after → StepsAll old before (map event_of (take (done + 1) events)) new after
 one_more_step events done d within steps step = rw (map_more event_of events done d within) (more steps step)
 
 -- the events so far were handled
-pub taken_whole : {old middle : MatchState} {before between : List (List ℕ)} (events : List Event) (done : ℕ) (after : List (List ℕ)) → StepsAll old before (map event_of (take done events)) middle between → after ≡ between → StepsAll old before (take done (map event_of events)) middle after
+pub taken_whole : {old middle : MatchState} {before between : List (List ℕ)} (events : List (Event (Bor (List ℕ)))) (done : ℕ) (after : List (List ℕ)) → StepsAll old before (map event_of (take done events)) middle between → after ≡ between → StepsAll old before (take done (map event_of events)) middle after
 taken_whole {old} {middle} {before} events done after steps same = rw (take-map event_of done events, same) steps
 
 -- a step keeps an outbox of the match's seats

@@ -1,7 +1,8 @@
 -- A match that opens and handles events in turn is refereed.
 use Rattle.std.proofs.Common.{◌≡◌, ℕ, List, refl, sym, ap, ◌∙◌, None, inr}
 use Rattle.rbg_match.specs.declared.config.Config.{Config}
-use Rattle.rbg_match.proofs.Common.{AbstractEvent, MatchState, StepsAll, AbstractPlay}
+use Rattle.rbg_match.proofs.Common.{MatchState, StepsAll, AbstractPlay}
+use Rattle.rbg_script.specs.Events.{AbstractEvent}
 use Rattle.rbg_match.proofs.AllEvents.{all_handled}
 use Rattle.rbg_match.proofs.WholeMatch.{stepped_is_transcript}
 use Rattle.rbg_referee.specs.declared.error.RefereeError.{RefereeError}

@@ -3,7 +3,8 @@ use Rattle.rbg_base.proofs.Common.{◌≡◌, ℕ, zero, suc, ◌+◌, ◌==◌,
 use Rattle.rbg_base.specs.Names.{is_name}
 use Rattle.rbg_referee.proofs.CallerLemmas.{names_in, no_zero_in}
 use Rattle.rbg_match.specs.declared.config.Config.{Config}
-use Rattle.rbg_match.proofs.Common.{Delivery, to_seat, to_each, to_others, bytes_for, AbstractInput, Refuses, Judges, HandlesInTime, Handles, AbstractEvent, TimedInput, AbstractPlay, PlaysOn, seats_of, HandlesAll, greeting, greetings}
+use Rattle.rbg_match.proofs.Common.{Delivery, to_seat, to_each, to_others, bytes_for, AbstractInput, Refuses, Judges, HandlesInTime, Handles, TimedInput, AbstractPlay, PlaysOn, seats_of, HandlesAll, greeting, greetings}
+use Rattle.rbg_script.specs.Events.{AbstractEvent}
 use Rattle.rbg_match.specs.Handling.Refuses.{counted, spent}
 use Rattle.rbg_match.specs.Handling.Judges.{heavy as hard, illegal, legal}
 use Rattle.rbg_match.specs.Handling.HandlesInTime.{nothing, leaving, out_of_turn, unreadable, too_many, judged}

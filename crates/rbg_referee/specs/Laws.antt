@@ -1,7 +1,7 @@
 -- Laws of a match that is refereed.
 use Rattle.std.specs.Prelude.{◌≡◌, ℕ, List}
 use Rattle.rbg_match.specs.declared.config.Config.{Config}
-use Rattle.rbg_match.specs.Inputs.{AbstractEvent}
+use Rattle.rbg_script.specs.Events.{AbstractEvent}
 use Rattle.rbg_match.specs.Laws.{IsHeavyEnd, keeper_pairs}
 use Rattle.rbg_referee.specs.Refereed.{IsRefereed}
 

@@ -1,5 +1,5 @@
 -- The printed lines of the match of a description and a script, and why there are none.
-use Rattle.std.specs.Prelude.{◌≡◌, ℕ, List, map}
+use Rattle.std.specs.Prelude.{◌≡◌, ℕ, List}
 use Rattle.rbg_game.specs.Loading.{Loads, IsRefused, IsMemory}
 use Rattle.rbg_match.specs.Matches.{MatchState}
 use Rattle.rbg_referee.specs.Played.{IsMatchOf}
@@ -10,17 +10,17 @@ use Rattle.rbg_script.specs.Scripts.{AbstractScript, SpellsScript, HasMisfit}
 use Rattle.rbg_referee.specs.declared.input_error.RefereeingError.{RefereeingError}
 use Rattle.rbg_referee.specs.declared.input_error.RefereeingError.TheVariants.{Load, Script, Memory}
 use Rattle.rbg_referee.specs.Printed.{IsPrinted}
-use Rattle.rbg_referee.specs.Scripts.{config_for, event_for}
+use Rattle.rbg_referee.specs.Scripts.{config_for}
 
 -- The seats have these bytes in the match of the description and the script.
 abbrev pub IsScriptRefereed : (description : List ℕ) → AbstractScript → (outbox : List (List ℕ)) → Type 0
 IsScriptRefereed description script outbox =
-    IsRefereed description (config_for script.config) script.config.now (map event_for script.events) outbox
+    IsRefereed description (config_for script.config) script.config.now script.events outbox
 
 -- The events of the script lead to this match of the description's game, and these bytes are queued for the seats.
 abbrev pub IsScriptPlayed : (description : List ℕ) → AbstractScript → MatchState → (queued : List (List ℕ)) → Type 0
 IsScriptPlayed description script state queued =
-    IsMatchOf description (config_for script.config) script.config.now (map event_for script.events) state queued
+    IsMatchOf description (config_for script.config) script.config.now script.events state queued
 
 -- The match of the description and the script is refereed, and these are the lines of its outbox.
 pub record IsPrintedMatch (description : List ℕ) (script : AbstractScript) (lines : List ℕ) : Type 0 where

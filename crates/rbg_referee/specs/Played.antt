@@ -1,7 +1,7 @@
 -- The match that events lead to, from the text of its game on.
 use Rattle.std.specs.Prelude.{◌≡◌, ℕ, List}
 use Rattle.rbg_match.specs.declared.config.Config.{Config}
-use Rattle.rbg_match.specs.Inputs.{AbstractEvent}
+use Rattle.rbg_script.specs.Events.{AbstractEvent}
 use Rattle.rbg_match.specs.Matches.{MatchState, HasHistory, StepsAll}
 use Rattle.rbg_referee.specs.Refereed.{IsRefereed, OpensText}
 

@@ -9,7 +9,7 @@ use Rattle.rbg_match.specs.Config.{IsWithinLimits}
 use Rattle.rbg_match.specs.Deliveries.{Delivery, queued}
 use Rattle.rbg_match.specs.Play.{AbstractPlay}
 use Rattle.rbg_match.specs.PlayingOn.{seats_of}
-use Rattle.rbg_match.specs.Inputs.{AbstractEvent}
+use Rattle.rbg_script.specs.Events.{AbstractEvent}
 use Rattle.rbg_match.specs.Transcript.{Transcript}
 use Rattle.rbg_match.specs.Matches.{MatchState, Opens}
 

@@ -11,7 +11,7 @@ mod printed;
 mod printed_match;
 mod refereeing;
 mod run;
-mod script_events;
+mod script_config;
 
 pub use answer::{
     Answer, answer_device, answer_fault, answer_input, answer_line, answer_refused, answer_script,
@@ -23,4 +23,4 @@ pub use printed::{match_lines, push_seat};
 pub use printed_match::{play_script, referee_input, referee_texts};
 pub use refereeing::{referee, referee_match};
 pub use run::run_referee;
-pub use script_events::{config_of, events_of};
+pub use script_config::config_of;

@@ -9,10 +9,10 @@ ghost use Rattle.rbg_script.specs.Scripts.{IsReason, SpellsScript, script_of as 
 use crate::RefereeingError;
 use crate::printed::match_lines;
 use crate::refereeing::referee_match;
-use crate::script_events::{config_of, events_of};
+use crate::script_config::config_of;
 use rbg_game::load;
 use rbg_match::{Match, Outbox};
-use rbg_script::{Script, ScriptError, cut_at_mark, read_script};
+use rbg_script::{Script, ScriptError, cut_at_mark, lend_events, read_script};
 use std::alloc::Global;
 
 /// Referees the match of an input: a description, a line `%%` and a script. Returns the lines that are printed of it.
@@ -98,7 +98,7 @@ pub fn play_script(
     ensures refused { IfErr result (λ fault. (text : List ℕ) →
         SpellsScript text (abstract_script script.now) → IsNoMatch description.now text fault) }
 {
-    let events = match events_of(alloc, script.events.as_slice()) {
+    let events = match lend_events(alloc, script.events.as_slice()) {
         Ok(events) => events,
         Err(_) => return Err(RefereeingError::Memory),
     };

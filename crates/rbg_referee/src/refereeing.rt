@@ -3,14 +3,15 @@ ghost use Rattle.std.specs.Prelude.{◌≡◌, ◌<◌, ℕ, List, length, map, 
 ghost use Rattle.rbg_game.specs.Loading.{IsRefused};
 ghost use Rattle.rbg_match.specs.declared.config.Config.{Config};
 ghost use Rattle.rbg_match.specs.PlayingOn.{seats_of};
-ghost use Rattle.rbg_match.specs.Inputs.{AbstractEvent, event_of};
+ghost use Rattle.rbg_script.specs.Events.{AbstractEvent, event_of};
 ghost use Rattle.rbg_match.specs.Matches.{HasHistory, MatchState, StepsAll};
 ghost use Rattle.rbg_referee.specs.Played.{IsMatchOf};
 ghost use Rattle.rbg_referee.specs.Refereed.{IsRefereed, IsRefusedFor, OpensText, StopsMatch};
 
 use crate::RefereeError;
 use rbg_game::{LoadError, load};
-use rbg_match::{Config, Event, Match, MatchError, Outbox};
+use rbg_match::{Config, Match, MatchError, Outbox};
+use rbg_script::Event;
 use std::alloc::Global;
 
 /// Referees a match: loads the game from its text, makes the match at the moment `now`, and handles the events in turn.
@@ -20,7 +21,7 @@ pub fn referee(
     text: &[u8],
     config: Config,
     now: u64,
-    events: &[Event<'_>],
+    events: &[Event<&[u8]>],
 ) -> Result<Outbox, RefereeError>
     ensures refereed { IfOk result (IsRefereed text.now config now (map event_of events.now)) }
     ensures refused { IfErr result (IsRefusedFor text.now config now (map event_of events.now)) }
@@ -35,7 +36,7 @@ pub fn referee_match(
     text: &[u8],
     config: Config,
     now: u64,
-    events: &[Event<'_>],
+    events: &[Event<&[u8]>],
 ) -> Result<(Match, Outbox), RefereeError>
     ensures played { IfOk result (λ played.
         IsMatchOf text.now config now (map event_of events.now) played.0 played.1) }
@@ -90,7 +91,7 @@ fn not_loaded(alloc: Global, error: LoadError) -> RefereeError
 fn go_on(
     refereed: &mut Match,
     mut outbox: Outbox,
-    events: &[Event<'_>],
+    events: &[Event<&[u8]>],
 ) -> Result<Outbox, RefereeError>
     requires works { refereed.old.failed ≡ false }
     requires seats { length outbox ≡ seats_of refereed.old.game }
@@ -112,7 +113,11 @@ fn go_on(
 }
 
 /// Handles the events in turn. An error has the number of events that were handled. The match had not ended after them.
-fn handle_all(refereed: &mut Match, events: &[Event<'_>], outbox: &mut Outbox) -> Result<(), usize>
+fn handle_all(
+    refereed: &mut Match,
+    events: &[Event<&[u8]>],
+    outbox: &mut Outbox,
+) -> Result<(), usize>
     requires works { refereed.old.failed ≡ false }
     requires seats { length outbox.old ≡ seats_of refereed.old.game }
     ensures all { OnOk result (StepsAll refereed.old outbox.old (map event_of events.now)

@@ -1,12 +1,13 @@
 -- Each text spells one thing at most.
+use Rattle.std.specs.Global.{Vec}
 use Rattle.rbg_base.proofs.Common.{◌≡◌, ◌≢◌, ℕ, ◌<◌, ◌^◌, Option, Some, None, IfSome, IfNone, Result, Ok, Err, IfOk, List, [], ◌∷◌, ◌++◌, decimal, codes, ap, sym, ◌∙◌, refl, subst, arith, IsSomeAnd, decimal_injective}
 use Rattle.rbg_wire.proofs.ByteLemmas.{same_end}
 use Rattle.rbg_wire.proofs.FieldLemmas.{same_fields}
 use Rattle.rbg_script.specs.declared.config.ScriptConfig.{ScriptConfig}
 use Rattle.rbg_script.specs.declared.event.ScriptMessage.{ScriptMessage}
-use Rattle.rbg_script.specs.declared.event.ScriptEvent.{ScriptEvent}
+use Rattle.rbg_script.specs.declared.event.Event.{Event}
 use Rattle.rbg_script.specs.Config.{SpellsConfig}
-use Rattle.rbg_script.specs.Events.{AbstractEvent, piece_event, end_event, tick_event, AreNumbers, HasFields, SpellsBytes, SpellsEvent, SpellsMessage, by_message, by_digits, by_end, by_tick, end_text, tick_text, event_of}
+use Rattle.rbg_script.specs.Events.{AbstractEvent, piece, end_of_stream, moment_alone, AreNumbers, HasFields, SpellsBytes, SpellsEvent, SpellsMessage, by_message, by_digits, by_end, by_tick, end_text, tick_text, owned_event_of}
 use Rattle.rbg_script.specs.Laws.{SpellingsAreApart}
 use Rattle.rbg_script.proofs.Digits.{one_bytes}
 use Rattle.rbg_script.proofs.Parts.{one_fields, fields_shape, end_shape, tick_shape, config_shape, turn_small, refusals_small}
@@ -52,16 +53,16 @@ one_end text s a t b m n h k =
 one_tick : (text : List ℕ) (a b : ℕ) → a < 2 ^ 64 → b < 2 ^ 64 → text ≡ tick_text a → text ≡ tick_text b → a ≡ b
 one_tick text a b m n h k = decimal_injective a b m n (same_end (codes "t ") (decimal a) (decimal b) (sym (tick_shape a) ∙ (sym h ∙ (k ∙ tick_shape b))))
 
-one_digits : (text : List ℕ) (s a t b : ℕ) (x y p q : List ℕ) → HasFields text (codes "p ") s a x → HasFields text (codes "p ") t b y → SpellsBytes x p → SpellsBytes y q → piece_event s a p ≡ piece_event t b q
+one_digits : (text : List ℕ) (s a t b : ℕ) (x y p q : List ℕ) → HasFields text (codes "p ") s a x → HasFields text (codes "p ") t b y → SpellsBytes x p → SpellsBytes y q → piece s a p ≡ piece t b q
 one_digits text s a t b x y p q h k m n =
     let parts = one_fields text (codes "p ") s t a b x y h k in
     let bytes = one_bytes y p q (subst (λ digits. SpellsBytes digits p) parts.2 m) n in
-    λ i. piece_event (parts.0 i) (parts.1 i) (bytes i)
+    λ i. piece (parts.0 i) (parts.1 i) (bytes i)
 
 pub one_event : (text : List ℕ) (a b : AbstractEvent) → SpellsEvent text a → SpellsEvent text b → a ≡ b
 one_event text _ _ (by_message s a x h) (by_message t b y k) =
     let parts = one_fields text (codes "m ") s t a b x y h k in
-    λ i. piece_event (parts.0 i) (parts.1 i) (parts.2 i ++ 0 ∷ [])
+    λ i. piece (parts.0 i) (parts.1 i) (parts.2 i ++ 0 ∷ [])
 one_event text _ _ (by_message s a x h) (by_digits t b y q k n) = absurd (apart 109 112 (λ e. absurd (omega arith)) text (message_begins text s a x h) (digits_begin text t b y k))
 one_event text _ _ (by_message s a x h) (by_end t b n k) = absurd (apart 109 101 (λ e. absurd (omega arith)) text (message_begins text s a x h) (end_begins text t b k))
 one_event text _ _ (by_message s a x h) (by_tick b n k) = absurd (apart 109 116 (λ e. absurd (omega arith)) text (message_begins text s a x h) (tick_begins text b k))
@@ -71,12 +72,12 @@ one_event text _ _ (by_digits s a x p h m) (by_end t b n k) = absurd (apart 112 
 one_event text _ _ (by_digits s a x p h m) (by_tick b n k) = absurd (apart 112 116 (λ e. absurd (omega arith)) text (digits_begin text s a x h) (tick_begins text b k))
 one_event text _ _ (by_end s a m h) (by_message t b y k) = absurd (apart 101 109 (λ e. absurd (omega arith)) text (end_begins text s a h) (message_begins text t b y k))
 one_event text _ _ (by_end s a m h) (by_digits t b y q k n) = absurd (apart 101 112 (λ e. absurd (omega arith)) text (end_begins text s a h) (digits_begin text t b y k))
-one_event text _ _ (by_end s a m h) (by_end t b n k) = let parts = one_end text s a t b m n h k in λ i. end_event (parts.0 i) (parts.1 i)
+one_event text _ _ (by_end s a m h) (by_end t b n k) = let parts = one_end text s a t b m n h k in λ i. end_of_stream (parts.0 i) (parts.1 i)
 one_event text _ _ (by_end s a m h) (by_tick b n k) = absurd (apart 101 116 (λ e. absurd (omega arith)) text (end_begins text s a h) (tick_begins text b k))
 one_event text _ _ (by_tick a m h) (by_message t b y k) = absurd (apart 116 109 (λ e. absurd (omega arith)) text (tick_begins text a h) (message_begins text t b y k))
 one_event text _ _ (by_tick a m h) (by_digits t b y q k n) = absurd (apart 116 112 (λ e. absurd (omega arith)) text (tick_begins text a h) (digits_begin text t b y k))
 one_event text _ _ (by_tick a m h) (by_end t b n k) = absurd (apart 116 101 (λ e. absurd (omega arith)) text (tick_begins text a h) (end_begins text t b k))
-one_event text _ _ (by_tick a m h) (by_tick b n k) = ap tick_event (one_tick text a b m n h k)
+one_event text _ _ (by_tick a m h) (by_tick b n k) = ap moment_alone (one_tick text a b m n h k)
 
 no_kinds : (text : List ℕ) (config : ScriptConfig) (event : AbstractEvent) → SpellsConfig text config → SpellsEvent text event → ⊥
 no_kinds text config _ c (by_message s a x h) = apart 99 109 (λ e. absurd (omega arith)) text (config_begins text config c) (message_begins text s a x h)
@@ -98,8 +99,8 @@ pub message_only : (text : List ℕ) (answer : Option ScriptMessage) → IfSome 
 message_only text (Some message) h none seat at said spelled = one_fields text (codes "m ") message.seat seat message.at at message.text.now said h spelled
 message_only text None h none seat at said spelled = absurd (none seat at said spelled)
 
-pub event_only : {E : Type 0} (text : List ℕ) (answer : Result (Option ScriptEvent) E) → IfOk answer (λ read. IfSome read (λ event. SpellsEvent text (event_of event))) → IfOk answer (λ read. IfNone read ((event : AbstractEvent) → SpellsEvent text event → ⊥)) → (event : AbstractEvent) → SpellsEvent text event → IfOk answer (λ read. IsSomeAnd read (λ found. event_of found ≡ event))
-event_only text (Ok (Some found)) h none event spelled = one_event text (event_of found) event h spelled
+pub event_only : {E : Type 0} (text : List ℕ) (answer : Result (Option (Event (Vec ℕ))) E) → IfOk answer (λ read. IfSome read (λ event. SpellsEvent text (owned_event_of event))) → IfOk answer (λ read. IfNone read ((event : AbstractEvent) → SpellsEvent text event → ⊥)) → (event : AbstractEvent) → SpellsEvent text event → IfOk answer (λ read. IsSomeAnd read (λ found. owned_event_of found ≡ event))
+event_only text (Ok (Some found)) h none event spelled = one_event text (owned_event_of found) event h spelled
 event_only text (Ok None) h none event spelled = absurd (none event spelled)
 event_only text (Err error) h none event spelled = tt
 
@@ -110,8 +111,8 @@ some_here P answer x is h = subst (λ a. IfSome a P) is h
 pub none_here : {T P : Type 0} (answer : Option T) → answer ≡ None → IfNone answer P → P
 none_here {P = P} answer is h = subst (λ a. IfNone a P) is h
 
-pub no_event_here : (text : List ℕ) (answer : Option ScriptEvent) → answer ≡ None → ((event : AbstractEvent) → SpellsEvent text event → IsSomeAnd answer (λ found. event_of found ≡ event)) → (event : AbstractEvent) → SpellsEvent text event → ⊥
-no_event_here text answer is only event spelled = subst (λ a. IsSomeAnd a (λ found. event_of found ≡ event)) is (only event spelled)
+pub no_event_here : (text : List ℕ) (answer : Option (Event (Vec ℕ))) → answer ≡ None → ((event : AbstractEvent) → SpellsEvent text event → IsSomeAnd answer (λ found. owned_event_of found ≡ event)) → (event : AbstractEvent) → SpellsEvent text event → ⊥
+no_event_here text answer is only event spelled = subst (λ a. IsSomeAnd a (λ found. owned_event_of found ≡ event)) is (only event spelled)
 
 -- digits that spell no bytes, in a line that has them
 pub bad_digits : (text : List ℕ) (seat at : ℕ) (rest : List ℕ) → HasFields text (codes "p ") seat at rest → ((bytes : List ℕ) → SpellsBytes rest bytes → ⊥) → (s a : ℕ) (digits bytes : List ℕ) → HasFields text (codes "p ") s a digits → SpellsBytes digits bytes → ⊥

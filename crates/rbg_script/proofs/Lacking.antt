@@ -5,7 +5,7 @@ use Rattle.rbg_wire.specs.Bytes.{LacksByte}
 use Rattle.rbg_wire.proofs.NumberLemmas.{lacks_byte-decimal}
 use Rattle.rbg_script.specs.declared.config.ScriptConfig.{ScriptConfig}
 use Rattle.rbg_script.specs.Config.{ConfigHasSpelling, SpellsConfig, config_text}
-use Rattle.rbg_script.specs.Events.{AbstractEvent, AreNumbers, piece_event, end_event, tick_event, EventHasSpelling, SpellsEvent, by_digits, by_end, by_tick, byte_text, event_text, fields_text, end_text, tick_text}
+use Rattle.rbg_script.specs.Events.{AbstractEvent, AreNumbers, piece, end_of_stream, moment_alone, EventHasSpelling, SpellsEvent, by_digits, by_end, by_tick, byte_text, event_text, fields_text, end_text, tick_text}
 use Rattle.rbg_script.specs.Laws.{WrittenIsRead}
 use Rattle.rbg_script.specs.Scripts.{AbstractScript, ScriptHasSpelling, SpellsScript, script_text}
 use Rattle.rbg_script.proofs.Digits.{spells_written}
@@ -61,21 +61,21 @@ digits_lack (byte ∷ bytes) h =
 
 event_lacks : (event : AbstractEvent) → EventHasSpelling event → LacksByte 10 (event_text event)
 unfolding event_text fields_text end_text tick_text
-event_lacks (piece_event seat at bytes) h =
+event_lacks (piece seat at bytes) h =
     fields_lack (codes "p ") (decimal seat) (decimal at) (flat_map byte_text bytes) (known (codes "p ") refl) (number_lacks seat h.0.0) (number_lacks at h.0.1) (digits_lack bytes h.1)
-event_lacks (end_event seat at) h =
+event_lacks (end_of_stream seat at) h =
     both_lack (codes "e " ++ decimal seat ++ codes " ") (decimal at)
     (both_lack (codes "e " ++ decimal seat) (codes " ") (both_lack (codes "e ") (decimal seat) (known (codes "e ") refl) (number_lacks seat h.0)) space_lacks_feed) (number_lacks at h.1)
-event_lacks (tick_event at) h = both_lack (codes "t ") (decimal at) (known (codes "t ") refl) (number_lacks at h)
+event_lacks (moment_alone at) h = both_lack (codes "t ") (decimal at) (known (codes "t ") refl) (number_lacks at h)
 
 config_read : (config : ScriptConfig) → ConfigHasSpelling config → SpellsConfig (config_text config) config
 config_read config h = record { has = h; is = refl }
 
 event_read : (event : AbstractEvent) → EventHasSpelling event → SpellsEvent (event_text event) event
 unfolding event_text
-event_read (piece_event seat at bytes) h = by_digits seat at (flat_map byte_text bytes) bytes (record { numbers = h.0; is = refl }) (spells_written bytes h.1)
-event_read (end_event seat at) h = by_end seat at h refl
-event_read (tick_event at) h = by_tick at h refl
+event_read (piece seat at bytes) h = by_digits seat at (flat_map byte_text bytes) bytes (record { numbers = h.0; is = refl }) (spells_written bytes h.1)
+event_read (end_of_stream seat at) h = by_end seat at h refl
+event_read (moment_alone at) h = by_tick at h refl
 
 events_lack : (events : List AbstractEvent) → All EventHasSpelling events → All (LacksByte 10) (map event_text events)
 events_lack [] h = All-nil (LacksByte 10)

@@ -5,7 +5,7 @@ use Rattle.rbg_wire.specs.Words.{BeginsWithNumber}
 use Rattle.rbg_wire.proofs.FieldLemmas.{same_fields, with_rest}
 use Rattle.rbg_script.specs.declared.config.ScriptConfig.{ScriptConfig}
 use Rattle.rbg_script.specs.Config.{AreWithinLimits, SpellsConfig, config_text}
-use Rattle.rbg_script.specs.Events.{HasFields, SpellsEvent, by_end, by_tick, end_event, tick_event, fields_text, end_text, tick_text}
+use Rattle.rbg_script.specs.Events.{HasFields, SpellsEvent, by_end, by_tick, end_of_stream, moment_alone, fields_text, end_text, tick_text}
 
 -- a word, two fields with a space after each, and more
 two_fields : (word a b rest : List ℕ) → word ++ a ++ codes " " ++ b ++ codes " " ++ rest ≡ word ++ (a ++ 32 ∷ (b ++ 32 ∷ rest))
@@ -72,14 +72,14 @@ spells_config text fields after last turn refusals now within small is first sec
 pub end_fields : (text fields : List ℕ) (seat at : ℕ) → text ≡ codes "e " ++ fields → text ≡ end_text seat at → fields ≡ decimal seat ++ 32 ∷ decimal at
 end_fields text fields seat at is end = same_end (codes "e ") fields (decimal seat ++ 32 ∷ decimal at) (sym is ∙ (end ∙ end_shape seat at))
 
-pub spells_end : (text fields last : List ℕ) (seat at : ℕ) → BeginsWithNumber fields seat last → at < 2 ^ 64 → text ≡ codes "e " ++ fields → last ≡ decimal at → SpellsEvent text (end_event seat at)
+pub spells_end : (text fields last : List ℕ) (seat at : ℕ) → BeginsWithNumber fields seat last → at < 2 ^ 64 → text ≡ codes "e " ++ fields → last ≡ decimal at → SpellsEvent text (end_of_stream seat at)
 spells_end text fields last seat at first second is more =
     by_end seat at (first.small, second) (is ∙ (ap (λ f. codes "e " ++ f) (with_rest fields last (decimal at) seat first more) ∙ sym (end_shape seat at)))
 
 pub tick_field : (text field : List ℕ) (at : ℕ) → text ≡ codes "t " ++ field → text ≡ tick_text at → field ≡ decimal at
 tick_field text field at is tick = same_end (codes "t ") field (decimal at) (sym is ∙ (tick ∙ tick_shape at))
 
-pub spells_tick : (text field : List ℕ) (at : ℕ) → at < 2 ^ 64 → text ≡ codes "t " ++ field → field ≡ decimal at → SpellsEvent text (tick_event at)
+pub spells_tick : (text field : List ℕ) (at : ℕ) → at < 2 ^ 64 → text ≡ codes "t " ++ field → field ≡ decimal at → SpellsEvent text (moment_alone at)
 spells_tick text field at small is more = by_tick at small (is ∙ (ap (λ f. codes "t " ++ f) more ∙ sym (tick_shape at)))
 
 -- the three numbers of a config's text

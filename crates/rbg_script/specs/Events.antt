@@ -1,21 +1,37 @@
 -- The events of a script, and the lines that spell them.
 use Rattle.std.specs.Prelude.{◌≡◌, ℕ, ◌+◌, ◌*◌, ◌/◌, ◌%◌, ◌<◌, ◌^◌, Some, List, [], ◌∷◌, ◌++◌, slice_index, codes, decimal, All}
+use Rattle.std.specs.Borrow.{Bor}
+use Rattle.std.specs.Global.{Vec}
 use Rattle.std.specs.List.{flat_map}
 use Rattle.hex.specs.Hex.{hex_digit_value, lower_digits}
 use Rattle.rbg_script.specs.declared.event.ScriptMessage.{ScriptMessage}
-use Rattle.rbg_script.specs.declared.event.ScriptEvent.{ScriptEvent}
-use Rattle.rbg_script.specs.declared.event.ScriptEvent.TheVariants.{Piece, Ended, Tick}
+use Rattle.rbg_script.specs.declared.event.Event.{Event}
+use Rattle.rbg_script.specs.declared.event.Event.TheVariants.{Piece, Ended, Tick}
 
--- an event, apart from where its bytes are in memory
+-- An event, apart from where its bytes are in memory. Its source is the number of a seat, from 1, or of a line of a hall,
+-- from 0.
 pub data AbstractEvent : Type 0 where
-  piece_event : (seat at : ℕ) (bytes : List ℕ) → AbstractEvent
-  end_event : (seat at : ℕ) → AbstractEvent
-  tick_event : (at : ℕ) → AbstractEvent
+  piece : (source at : ℕ) (bytes : List ℕ) → AbstractEvent
+  end_of_stream : (source at : ℕ) → AbstractEvent
+  moment_alone : (at : ℕ) → AbstractEvent
 
-abbrev pub event_of : ScriptEvent → AbstractEvent
-event_of (Piece seat at bytes) = piece_event seat at bytes.items
-event_of (Ended seat at) = end_event seat at
-event_of (Tick at) = tick_event at
+-- the event that borrows its bytes
+abbrev pub event_of : Event (Bor (List ℕ)) → AbstractEvent
+event_of (Piece source at bytes) = piece source at bytes.now
+event_of (Ended source at) = end_of_stream source at
+event_of (Tick at) = moment_alone at
+
+-- the same of an event that owns its bytes
+abbrev pub owned_event_of : Event (Vec ℕ) → AbstractEvent
+owned_event_of (Piece source at bytes) = piece source at bytes.items
+owned_event_of (Ended source at) = end_of_stream source at
+owned_event_of (Tick at) = moment_alone at
+
+-- the moment that an event gives
+abbrev pub moment_of : AbstractEvent → ℕ
+moment_of (piece source at bytes) = at
+moment_of (end_of_stream source at) = at
+moment_of (moment_alone at) = at
 
 -- The digits spell the bytes: two hexadecimal digits for each, the high one first, each in either case.
 pub data SpellsBytes : List ℕ → List ℕ → Type 0 where
@@ -52,13 +68,13 @@ tick_text at = codes "t " ++ decimal at
 pub data SpellsEvent (text : List ℕ) : AbstractEvent → Type 0 where
   by_message : (seat at : ℕ) (said : List ℕ)
       → HasFields text (codes "m ") seat at said
-      → SpellsEvent text (piece_event seat at (said ++ 0 ∷ []))
+      → SpellsEvent text (piece seat at (said ++ 0 ∷ []))
   by_digits : (seat at : ℕ) (digits bytes : List ℕ)
       → HasFields text (codes "p ") seat at digits
       → SpellsBytes digits bytes
-      → SpellsEvent text (piece_event seat at bytes)
-  by_end : (seat at : ℕ) → AreNumbers seat at → text ≡ end_text seat at → SpellsEvent text (end_event seat at)
-  by_tick : (at : ℕ) → at < 2 ^ 64 → text ≡ tick_text at → SpellsEvent text (tick_event at)
+      → SpellsEvent text (piece seat at bytes)
+  by_end : (seat at : ℕ) → AreNumbers seat at → text ≡ end_text seat at → SpellsEvent text (end_of_stream seat at)
+  by_tick : (at : ℕ) → at < 2 ^ 64 → text ≡ tick_text at → SpellsEvent text (moment_alone at)
 
 -- the text is that of an `m` line with this message
 abbrev pub SpellsMessage : List ℕ → ScriptMessage → Type 0
@@ -70,12 +86,12 @@ byte_text byte = slice_index lower_digits (byte / 16) ∷ slice_index lower_digi
 
 -- the line that is written for an event: a piece is written with lower-case digits
 unfoldable pub event_text : AbstractEvent → List ℕ
-event_text (piece_event seat at bytes) = fields_text (codes "p ") seat at (flat_map byte_text bytes)
-event_text (end_event seat at) = end_text seat at
-event_text (tick_event at) = tick_text at
+event_text (piece seat at bytes) = fields_text (codes "p ") seat at (flat_map byte_text bytes)
+event_text (end_of_stream seat at) = end_text seat at
+event_text (moment_alone at) = tick_text at
 
 -- an event of numbers and bytes
 abbrev pub EventHasSpelling : AbstractEvent → Type 0
-EventHasSpelling (piece_event seat at bytes) = AreNumbers seat at × All (λ byte. byte < 256) bytes
-EventHasSpelling (end_event seat at) = AreNumbers seat at
-EventHasSpelling (tick_event at) = at < 2 ^ 64
+EventHasSpelling (piece seat at bytes) = AreNumbers seat at × All (λ byte. byte < 256) bytes
+EventHasSpelling (end_of_stream seat at) = AreNumbers seat at
+EventHasSpelling (moment_alone at) = at < 2 ^ 64

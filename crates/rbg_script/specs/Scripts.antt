@@ -7,7 +7,7 @@ use Rattle.rbg_script.specs.declared.error.ScriptError.{ScriptError}
 use Rattle.rbg_script.specs.declared.error.ScriptError.TheVariants.{Line, Memory}
 use Rattle.rbg_script.specs.declared.script.Script.{Script}
 use Rattle.rbg_script.specs.Config.{ConfigHasSpelling, SpellsConfig, config_text}
-use Rattle.rbg_script.specs.Events.{AbstractEvent, event_of, EventHasSpelling, SpellsEvent, event_text}
+use Rattle.rbg_script.specs.Events.{AbstractEvent, owned_event_of, EventHasSpelling, SpellsEvent, event_text}
 use Rattle.rbg_script.specs.Lines.{HasLines}
 
 -- a script, apart from where the bytes of its pieces are in memory
@@ -16,7 +16,7 @@ pub record AbstractScript : Type 0 where
   pub events : List AbstractEvent
 
 abbrev pub script_of : Script → AbstractScript
-script_of script = record { config = script.config; events = map event_of script.events.items }
+script_of script = record { config = script.config; events = map owned_event_of script.events.items }
 
 -- The text is that of the script: its first line spells the config, and the others spell the events in order.
 pub record SpellsScript (text : List ℕ) (script : AbstractScript) : Type 0 where

@@ -9,14 +9,14 @@ ghost use Rattle.rbg_script.specs.Events.{
   SpellsBytes,
   SpellsEvent,
   SpellsMessage,
-  event_of,
-  piece_event,
+  owned_event_of,
+  piece,
   tick_text,
 };
 ghost use Rattle.rbg_script.specs.internal.Reading.{IsNoEnd};
 
 use crate::fields::fields_in;
-use crate::{ScriptEvent, ScriptMessage};
+use crate::{Event, ScriptMessage};
 use hex::FromHexError;
 use rbg_base::{Memory, number_of_decimal};
 use rbg_wire::{after_text, cut_number};
@@ -40,21 +40,21 @@ pub fn read_message(line: &[u8]) -> Option<ScriptMessage<'_>>
 /// The event that the whole text spells.
 ///
 /// Returns None if the text spells no event.
-pub fn read_event(alloc: Global, line: &[u8]) -> Result<Option<ScriptEvent>, Memory>
+pub fn read_event(alloc: Global, line: &[u8]) -> Result<Option<Event<Vec<u8>>>, Memory>
     // An event that is returned is one that the text spells.
     ensures found { IfOk result (λ read.
-        IfSome read (λ event. SpellsEvent line.now (event_of event))) }
+        IfSome read (λ event. SpellsEvent line.now (owned_event_of event))) }
     // If the text spells an event, that event is returned.
     ensures only { (event : AbstractEvent)
         → SpellsEvent line.now event
-        → IfOk result (λ read. IsSomeAnd read (λ found. event_of found ≡ event)) }
+        → IfOk result (λ read. IsSomeAnd read (λ found. owned_event_of found ≡ event)) }
 {
     event_in(alloc, line)
 }
 
-fn event_in(alloc: Global, line: &[u8]) -> Result<Option<ScriptEvent>, Memory>
+fn event_in(alloc: Global, line: &[u8]) -> Result<Option<Event<Vec<u8>>>, Memory>
     ensures found { IfOk result (λ read.
-        IfSome read (λ event. SpellsEvent line.now (event_of event))) }
+        IfSome read (λ event. SpellsEvent line.now (owned_event_of event))) }
     ensures none { IfOk result (λ read.
         IfNone read ((event : AbstractEvent) → SpellsEvent line.now event → ⊥)) }
 {
@@ -83,25 +83,25 @@ fn message_in(line: &[u8]) -> Option<ScriptMessage<'_>>
 }
 
 // The piece that a message makes: its text and a zero byte.
-fn piece_of(alloc: Global, message: &ScriptMessage<'_>) -> Result<ScriptEvent, Memory>
+fn piece_of(alloc: Global, message: &ScriptMessage<'_>) -> Result<Event<Vec<u8>>, Memory>
     ensures { IfOk result (λ event.
-        event_of event
-        ≡ piece_event message.now.seat message.now.at (message.now.text.now ++ 0 ∷ [])) }
+        owned_event_of event
+        ≡ piece message.now.seat message.now.at (message.now.text.now ++ 0 ∷ [])) }
 {
     let mut bytes = Vec::with_capacity(alloc, message.text.len().saturating_add(1))?;
     bytes.extend_from_slice(message.text)?;
     bytes.push(0)?;
-    Ok(ScriptEvent::Piece {
-        seat: message.seat,
+    Ok(Event::Piece {
+        source: message.seat,
         at: message.at,
         bytes,
     })
 }
 
 // The piece of a `p` line.
-fn piece_in(alloc: Global, line: &[u8]) -> Result<Option<ScriptEvent>, Memory>
+fn piece_in(alloc: Global, line: &[u8]) -> Result<Option<Event<Vec<u8>>>, Memory>
     ensures found { IfOk result (λ read.
-        IfSome read (λ event. SpellsEvent line.now (event_of event))) }
+        IfSome read (λ event. SpellsEvent line.now (owned_event_of event))) }
     ensures none { IfOk result (λ read. IfNone read ((seat at : ℕ) (digits bytes : List ℕ)
         → HasFields line.now (codes "p ") seat at digits
         → SpellsBytes digits bytes
@@ -113,8 +113,8 @@ fn piece_in(alloc: Global, line: &[u8]) -> Result<Option<ScriptEvent>, Memory>
     let Some(bytes) = bytes_of(alloc, fields.rest)? else {
         return Ok(None);
     };
-    Ok(Some(ScriptEvent::Piece {
-        seat: fields.seat,
+    Ok(Some(Event::Piece {
+        source: fields.seat,
         at: fields.at,
         bytes,
     }))
@@ -146,8 +146,8 @@ fn is_memory(error: FromHexError) -> bool
 }
 
 // The event of a line that has no bytes.
-fn instant_in(line: &[u8]) -> Option<ScriptEvent>
-    ensures found { IfSome result (λ event. SpellsEvent line.now (event_of event)) }
+fn instant_in(line: &[u8]) -> Option<Event<Vec<u8>>>
+    ensures found { IfSome result (λ event. SpellsEvent line.now (owned_event_of event)) }
     ensures ended { IfNone result (IsNoEnd line.now) }
     ensures ticked { IfNone result ((at : ℕ) → at < 2 ^ 64 → line.now ≡ tick_text at → ⊥) }
 {
@@ -157,21 +157,21 @@ fn instant_in(line: &[u8]) -> Option<ScriptEvent>
     }
 }
 
-fn end_in(line: &[u8]) -> Option<ScriptEvent>
-    ensures found { IfSome result (λ event. SpellsEvent line.now (event_of event)) }
+fn end_in(line: &[u8]) -> Option<Event<Vec<u8>>>
+    ensures found { IfSome result (λ event. SpellsEvent line.now (owned_event_of event)) }
     ensures none { IfNone result (IsNoEnd line.now) }
 {
     let fields = after_text(b"e ", line)?;
     let (seat, at) = cut_number(fields)?;
     let at = number_of_decimal(at)?;
-    Some(ScriptEvent::Ended { seat, at })
+    Some(Event::Ended { source: seat, at })
 }
 
-fn tick_in(line: &[u8]) -> Option<ScriptEvent>
-    ensures found { IfSome result (λ event. SpellsEvent line.now (event_of event)) }
+fn tick_in(line: &[u8]) -> Option<Event<Vec<u8>>>
+    ensures found { IfSome result (λ event. SpellsEvent line.now (owned_event_of event)) }
     ensures none { IfNone result ((at : ℕ) → at < 2 ^ 64 → line.now ≡ tick_text at → ⊥) }
 {
     let at = after_text(b"t ", line)?;
     let at = number_of_decimal(at)?;
-    Some(ScriptEvent::Tick { at })
+    Some(Event::Tick { at })
 }

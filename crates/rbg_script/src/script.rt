@@ -1,13 +1,13 @@
 //! Scripts, and the call that reads one.
 ghost use Rattle.std.specs.Prelude.{◌≡◌, IfOk, IfErr, MatchResult, map};
 ghost use Rattle.rbg_script.specs.declared.error.ScriptError.TheVariants.{Memory as OutOfMemory};
-ghost use Rattle.rbg_script.specs.Events.{event_of};
+ghost use Rattle.rbg_script.specs.Events.{owned_event_of};
 ghost use Rattle.rbg_script.specs.Scripts.{AbstractScript, SpellsScript, script_of, IsReason};
 ghost use Rattle.rbg_script.specs.internal.Reading.{BeginsWith, SpellsEvents, IsEventReason, TakesLine};
 
 use crate::config_reader::read_config;
 use crate::event_reader::read_event;
-use crate::{ScriptConfig, ScriptError, ScriptEvent};
+use crate::{Event, ScriptConfig, ScriptError};
 use rbg_base::Memory;
 use rbg_wire::cut_at;
 use std::alloc::Global;
@@ -16,7 +16,7 @@ use std::alloc::Global;
 #[derive(Drop)]
 pub struct Script {
     pub config: ScriptConfig,
-    pub events: Vec<ScriptEvent>,
+    pub events: Vec<Event<Vec<u8>>>,
 }
 
 /// The script that the whole text spells.
@@ -48,8 +48,8 @@ fn script_in(alloc: Global, text: &[u8]) -> Result<Script, ScriptError>
 }
 
 // The events that the lines spell.
-fn read_events(alloc: Global, text: &[u8]) -> Result<Vec<ScriptEvent>, ScriptError>
-    ensures found { IfOk result (λ events. SpellsEvents text.now (map event_of events.items)) }
+fn read_events(alloc: Global, text: &[u8]) -> Result<Vec<Event<Vec<u8>>>, ScriptError>
+    ensures found { IfOk result (λ events. SpellsEvents text.now (map owned_event_of events.items)) }
     ensures line { IfErr result (IsEventReason text.now) }
 {
     let mut events = Vec::new(alloc);
@@ -65,9 +65,9 @@ fn read_events(alloc: Global, text: &[u8]) -> Result<Vec<ScriptEvent>, ScriptErr
 }
 
 // Adds the event that a line spells. Returns false if the line spells none.
-fn take_line(alloc: Global, line: &[u8], events: &mut Vec<ScriptEvent>) -> Result<bool, Memory>
+fn take_line(alloc: Global, line: &[u8], events: &mut Vec<Event<Vec<u8>>>) -> Result<bool, Memory>
     ensures { IfOk result (TakesLine line.now
-        (map event_of events.old.items) (map event_of events.new.items)) }
+        (map owned_event_of events.old.items) (map owned_event_of events.new.items)) }
 {
     let Some(event) = read_event(alloc, line)? else {
         return Ok(false);

@@ -7,9 +7,9 @@ ghost use Rattle.rbg_wire.specs.Inboxes.{item_of};
 ghost use Rattle.rbg_wire.specs.Lines.{line_of};
 ghost use Rattle.rbg_wire.specs.Whole.{filler, whole_item};
 ghost use Rattle.rbg_script.specs.Config.{config_text};
-ghost use Rattle.rbg_script.specs.Events.{EventHasSpelling, HasFields, byte_text, end_event, end_text, event_of, event_text, fields_text, piece_event, tick_event, tick_text};
+ghost use Rattle.rbg_script.specs.Events.{EventHasSpelling, HasFields, byte_text, end_of_stream, end_text, owned_event_of, event_text, fields_text, piece, moment_alone, tick_text};
 
-use crate::{ScriptConfig, ScriptEvent};
+use crate::{Event, ScriptConfig};
 use rbg_base::Memory;
 use rbg_wire::{Took, all_or_nothing, put_number};
 
@@ -31,15 +31,15 @@ pub fn write_config(config: ScriptConfig, out: &mut Vec<u8>) -> Result<(), Memor
 
 /// Appends the line of an event. A piece is written in lower-case hexadecimal digits. On an error the bytes are
 /// unchanged.
-pub fn write_event(event: &ScriptEvent, out: &mut Vec<u8>) -> Result<(), Memory>
+pub fn write_event(event: &Event<Vec<u8>>, out: &mut Vec<u8>) -> Result<(), Memory>
     ensures written { AppendsAll out.old.items out.new.items
-        (line_of (event_text (event_of event.now))) result }
-    ensures spelled { EventHasSpelling (event_of event.now) }
+        (line_of (event_text (owned_event_of event.now))) result }
+    ensures spelled { EventHasSpelling (owned_event_of event.now) }
 {
     match event {
-        ScriptEvent::Piece { seat, at, bytes } => write_piece(*seat, *at, bytes.as_slice(), out),
-        ScriptEvent::Ended { seat, at } => write_end(*seat, *at, out),
-        ScriptEvent::Tick { at } => write_tick(*at, out),
+        Event::Piece { source, at, bytes } => write_piece(*source, *at, bytes.as_slice(), out),
+        Event::Ended { source, at } => write_end(*source, *at, out),
+        Event::Tick { at } => write_tick(*at, out),
     }
 }
 
@@ -47,8 +47,8 @@ pub fn write_event(event: &ScriptEvent, out: &mut Vec<u8>) -> Result<(), Memory>
 /// unchanged.
 pub fn write_piece(seat: u64, at: u64, bytes: &[u8], out: &mut Vec<u8>) -> Result<(), Memory>
     ensures written { AppendsAll out.old.items out.new.items
-        (line_of (event_text (piece_event seat at bytes.now))) result }
-    ensures spelled { EventHasSpelling (piece_event seat at bytes.now) }
+        (line_of (event_text (piece seat at bytes.now))) result }
+    ensures spelled { EventHasSpelling (piece seat at bytes.now) }
 {
     are_bytes(bytes);
     let len = out.len();
@@ -66,8 +66,8 @@ pub fn write_item(
     out: &mut Vec<u8>,
 ) -> Result<(), Memory>
     ensures written { AppendsAll out.old.items out.new.items
-        (line_of (event_text (piece_event seat at (whole_item limit (item_of took.entry))))) result }
-    ensures spelled { EventHasSpelling (piece_event seat at (whole_item limit (item_of took.entry))) }
+        (line_of (event_text (piece seat at (whole_item limit (item_of took.entry))))) result }
+    ensures spelled { EventHasSpelling (piece seat at (whole_item limit (item_of took.entry))) }
 {
     are_item_bytes(took, limit);
     let len = out.len();
@@ -78,8 +78,8 @@ pub fn write_item(
 /// Appends the line of the end of a seat's stream. On an error the bytes are unchanged.
 pub fn write_end(seat: u64, at: u64, out: &mut Vec<u8>) -> Result<(), Memory>
     ensures written { AppendsAll out.old.items out.new.items
-        (line_of (event_text (end_event seat at))) result }
-    ensures spelled { EventHasSpelling (end_event seat at) }
+        (line_of (event_text (end_of_stream seat at))) result }
+    ensures spelled { EventHasSpelling (end_of_stream seat at) }
 {
     let len = out.len();
     let written = put_end_line(seat, at, out);
@@ -89,8 +89,8 @@ pub fn write_end(seat: u64, at: u64, out: &mut Vec<u8>) -> Result<(), Memory>
 /// Appends the line of a moment. On an error the bytes are unchanged.
 pub fn write_tick(at: u64, out: &mut Vec<u8>) -> Result<(), Memory>
     ensures written { AppendsAll out.old.items out.new.items
-        (line_of (event_text (tick_event at))) result }
-    ensures spelled { EventHasSpelling (tick_event at) }
+        (line_of (event_text (moment_alone at))) result }
+    ensures spelled { EventHasSpelling (moment_alone at) }
 {
     let len = out.len();
     let written = put_tick_line(at, out);
@@ -111,7 +111,7 @@ pub fn write_message(seat: u64, at: u64, text: &[u8], out: &mut Vec<u8>) -> Resu
 #[tactic(auto, unfolding(crate::specs::Events::event_text))]
 fn put_piece_line(seat: u64, at: u64, bytes: &[u8], out: &mut Vec<u8>) -> Result<(), Memory>
     ensures { Appends out.old.items out.new.items
-        (line_of (event_text (piece_event seat at bytes.now))) result }
+        (line_of (event_text (piece seat at bytes.now))) result }
 {
     put_piece(seat, at, bytes, out)?;
     out.extend_from_slice(b"\n")
@@ -135,7 +135,7 @@ fn put_item_line(
     out: &mut Vec<u8>,
 ) -> Result<(), Memory>
     ensures { Appends out.old.items out.new.items
-        (line_of (event_text (piece_event seat at (whole_item limit (item_of took.entry))))) result }
+        (line_of (event_text (piece seat at (whole_item limit (item_of took.entry))))) result }
 {
     put_head(b"p ", seat, at, out)?;
     put_item(took, limit, out)?;
@@ -155,7 +155,7 @@ fn are_item_bytes(took: Took<'_>, limit: usize)
 #[tactic(auto, unfolding(crate::specs::Events::event_text))]
 fn put_end_line(seat: u64, at: u64, out: &mut Vec<u8>) -> Result<(), Memory>
     ensures { Appends out.old.items out.new.items
-        (line_of (event_text (end_event seat at))) result }
+        (line_of (event_text (end_of_stream seat at))) result }
 {
     put_end(seat, at, out)?;
     out.extend_from_slice(b"\n")
@@ -163,7 +163,7 @@ fn put_end_line(seat: u64, at: u64, out: &mut Vec<u8>) -> Result<(), Memory>
 
 #[tactic(auto, unfolding(crate::specs::Events::event_text))]
 fn put_tick_line(at: u64, out: &mut Vec<u8>) -> Result<(), Memory>
-    ensures { Appends out.old.items out.new.items (line_of (event_text (tick_event at))) result }
+    ensures { Appends out.old.items out.new.items (line_of (event_text (moment_alone at))) result }
 {
     put_tick(at, out)?;
     out.extend_from_slice(b"\n")

@@ -1,6 +1,6 @@
 -- Lemmas on the middle of a call.
 use Rattle.std.proofs.Common.{◌≡◌, ◌≢◌, ℕ, ◌+◌, ◌<◌, ◌≤◌, List, [], ◌∷◌, ◌++◌, length, true, false, sym, refl, subst, arith, append_assoc, Result, Ok, Err, IsErrAnd, MatchResult, ◌⊎◌, inl, inr}
-use Rattle.rbg_match.specs.Inputs.{AbstractEvent, end_of_stream, moment_alone}
+use Rattle.rbg_script.specs.Events.{AbstractEvent, end_of_stream, moment_alone}
 use Rattle.rbg_serving.proofs.Common.{LineState, Heard, failed_to_take, round_over, is_round_over, IsLive, IsTimed, asked, heard_alone, heard_with_it, of_line, of_clock, Behaviour, Intake, intake_at, queued_at, ComeBefore, ExtendAll, MayComeNext, Handles, more, Told, Start, InCall, Passed, HeardLast, LacksMemoryInCall, WithMoments, AreServed, AreServedFrom, ArePassed}
 use Rattle.rbg_serving.proofs.HeardLemmas.{of_another, count_more}
 use Rattle.rbg_serving.proofs.LinesLemmas.{more_queued, heard_of_none}

@@ -1,7 +1,8 @@
 -- Lemmas on lines in the middle of a call.
 use Rattle.rbg_base.proofs.Common.{◌≡◌, ◌≢◌, ℕ, ◌+◌, ◌<◌, ◌≤◌, List, [], ◌∷◌, ◌++◌, length, take, set, get_or, ap, sym, ◌∙◌, refl, subst, arith, ◌⊎◌, inl, inr, length-append, append-nil, zero, suc, cases_eq, get_or-set_at}
 use Rattle.std.proofs.lemmas.List.{get_or-set_other, length-set, take-append-le}
-use Rattle.rbg_match.proofs.Common.{Delivery, bytes_for, delivered_from, AbstractEvent, MatchState, Steps}
+use Rattle.rbg_match.proofs.Common.{Delivery, bytes_for, delivered_from, MatchState, Steps}
+use Rattle.rbg_script.specs.Events.{AbstractEvent}
 use Rattle.rbg_serving.proofs.Common.{LineState, Heard, Intake, no_intake, queued_at, intake_at, Extends, ExtendAll, Told, Tells, told_at, has_taken, has_said, IsLineServed, AreServed, absent}
 use Rattle.rbg_serving.proofs.HeardLemmas.{SameOf, said_the_same}
 

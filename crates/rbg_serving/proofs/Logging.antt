@@ -4,13 +4,13 @@ use Rattle.std.proofs.lemmas.List.{map-append, take_all}
 use Rattle.rbg_game.specs.Loading.{Loads}
 use Rattle.rbg_rules.specs.Meaning.{AbstractGame}
 use Rattle.rbg_match.specs.declared.config.Config.{Config}
-use Rattle.rbg_match.proofs.Common.{AbstractEvent, piece, end_of_stream, moment_alone, moment_of, MatchState, Opens, Steps, StepsAll}
+use Rattle.rbg_match.proofs.Common.{MatchState, Opens, Steps, StepsAll}
 use Rattle.rbg_referee.specs.Refereed.{IsRefereed, OpensText}
 use Rattle.rbg_referee.specs.Played.{IsMatchOf}
 use Rattle.rbg_referee.proofs.RefereedLemmas.{refereed_with}
-use Rattle.rbg_referee.specs.Scripts.{config_for, event_for}
+use Rattle.rbg_referee.specs.Scripts.{config_for}
 use Rattle.rbg_script.specs.Config.{ConfigHasSpelling, config_text}
-use Rattle.rbg_script.specs.Events.{EventHasSpelling, event_text}
+use Rattle.rbg_script.specs.Events.{EventHasSpelling, event_text, AbstractEvent, moment_alone, moment_of}
 use Rattle.rbg_script.specs.Scripts.{AbstractScript, ScriptHasSpelling, script_text}
 use Rattle.rbg_script.proofs.Lacking.{written_read}
 use Rattle.rbg_wire.specs.Lines.{line_of, lines_of}
@@ -20,43 +20,29 @@ use Rattle.rbg_serving.specs.declared.served.ServeError.TheVariants.{Rounds, Mem
 use Rattle.rbg_serving.proofs.Common.{Heard, Intake, Handles, ServesOver, EndsServing, LacksMemory, Told}
 use Rattle.rbg_serving.specs.Passing as passing
 use Rattle.rbg_serving.specs.declared.logged.LoggedMatch.{LoggedMatch}
-use Rattle.rbg_serving.specs.Logs.{Appends, IsLog, Logs, LogsPart, event_lines, first_line, scripted}
+use Rattle.rbg_serving.specs.Logs.{Appends, IsLog, Logs, LogsPart, event_lines, first_line}
 use Rattle.rbg_serving.specs.LogServing.{IsOverAt, IsTimed, LeavesLog, LogLacks, LogSteps, of_log}
 use Rattle.rbg_serving.specs.Written.{written}
 use Rattle.rbg_serving.proofs.Replaying.{Stands, stands_on, stands_at_start, first_moment_small}
 
--- an event is that of its script's event
-same_event : (event : AbstractEvent) → event_for (scripted event) ≡ event
-same_event (piece seat at bytes) = refl
-same_event (end_of_stream seat at) = refl
-same_event (moment_alone at) = refl
-
-same_events : (events : List AbstractEvent) → map event_for (map scripted events) ≡ events
-same_events [] = refl
-same_events (event ∷ events) = λ i. same_event event i ∷ same_events events i
-
-texts_of : (events : List AbstractEvent) → map event_text (map scripted events) ≡ map (λ event. event_text (scripted event)) events
-texts_of [] = refl
-texts_of (event ∷ events) = ap (λ (others : List (List ℕ)). event_text (scripted event) ∷ others) (texts_of events)
-
 -- a script with these events after its own
 abbrev with_events : AbstractScript → List AbstractEvent → AbstractScript
-with_events script events = record script { events = script.events ++ map scripted events }
+with_events script events = record script { events = script.events ++ events }
 
 more_text : (script : AbstractScript) (events : List AbstractEvent) → script_text (with_events script events) ≡ script_text script ++ event_lines events
 more_text script events =
-    ap (λ (texts : List (List ℕ)). lines_of (config_text script.config ∷ texts)) (map-append event_text script.events (map scripted events) ∙ ap (λ (texts : List (List ℕ)). map event_text script.events ++ texts) (texts_of events))
-    ∙ flat_map-append line_of (config_text script.config ∷ map event_text script.events) (map (λ event. event_text (scripted event)) events)
+    ap (λ (texts : List (List ℕ)). lines_of (config_text script.config ∷ texts)) (map-append event_text script.events events)
+    ∙ flat_map-append line_of (config_text script.config ∷ map event_text script.events) (map event_text events)
 
-more_spelled : (script : AbstractScript) (events : List AbstractEvent) → ScriptHasSpelling script → All EventHasSpelling (map scripted events) → ScriptHasSpelling (with_events script events)
-more_spelled script events has spelled = record { config = has.config; events = All-append EventHasSpelling script.events (map scripted events) has.events spelled }
+more_spelled : (script : AbstractScript) (events : List AbstractEvent) → ScriptHasSpelling script → All EventHasSpelling events → ScriptHasSpelling (with_events script events)
+more_spelled script events has spelled = record { config = has.config; events = All-append EventHasSpelling script.events events has.events spelled }
 
 -- a match that stands so has this log
 module _ (text : List ℕ) (script : AbstractScript) (has : ScriptHasSpelling script) (opened : MatchState) (greeted : List (List ℕ)) (opens : OpensText text (config_for script.config) script.config.now opened greeted) (state : MatchState) (queued : List (List ℕ)) where
-  is_refereed : (replayed : MatchState) → StepsAll opened greeted (map event_for script.events) replayed queued → IsRefereed text (config_for script.config) script.config.now (map event_for script.events) queued
-  is_refereed replayed steps = (refereed_with text (config_for script.config) script.config.now (map event_for script.events) opened replayed greeted queued opens steps).0
+  is_refereed : (replayed : MatchState) → StepsAll opened greeted script.events replayed queued → IsRefereed text (config_for script.config) script.config.now script.events queued
+  is_refereed replayed steps = (refereed_with text (config_for script.config) script.config.now script.events opened replayed greeted queued opens steps).0
 
-  is_log : Stands opened greeted (map event_for script.events) state queued → IsLog text (script_text script) state queued
+  is_log : Stands opened greeted script.events state queued → IsLog text (script_text script) state queued
   is_log stands = record {
     script = script;
     spelled = has;
@@ -73,15 +59,12 @@ module _ (text : List ℕ) (script : AbstractScript) (has : ScriptHasSpelling sc
   }
 
 -- a log of one event more
-pub log_on : (text held : List ℕ) (state new : MatchState) (queued after : List (List ℕ)) (event : AbstractEvent) → IsLog text held state queued → Steps state event new queued after → All EventHasSpelling (map scripted (written state event)) → IsLog text (held ++ event_lines (written state event)) new after
+pub log_on : (text held : List ℕ) (state new : MatchState) (queued after : List (List ℕ)) (event : AbstractEvent) → IsLog text held state queued → Steps state event new queued after → All EventHasSpelling (written state event) → IsLog text (held ++ event_lines (written state event)) new after
 log_on text held state new queued after event log step spelled =
     let lines = written state event in
-    let before : Stands log.opened log.greeted (map event_for log.script.events) state queued = record { replayed = log.replayed; steps = log.steps; replays = log.replays; small = log.counted } in
-    let on = stands_on log.opened log.greeted (map event_for log.script.events) state queued before new event after step in
-    let same : map event_for log.script.events ++ lines ≡ map event_for (log.script.events ++ map scripted lines) =
-    ap (λ (others : List AbstractEvent). map event_for log.script.events ++ others) (sym (same_events lines)) ∙ sym (map-append event_for log.script.events (map scripted lines)) in
-    let there = subst (λ (events : List AbstractEvent). Stands log.opened log.greeted events new after) same on in
-    let whole : IsLog text (script_text (with_events log.script lines)) new after = is_log text (with_events log.script lines) (more_spelled log.script lines log.spelled spelled) log.opened log.greeted log.opens new after there in
+    let before : Stands log.opened log.greeted log.script.events state queued = record { replayed = log.replayed; steps = log.steps; replays = log.replays; small = log.counted } in
+    let on = stands_on log.opened log.greeted log.script.events state queued before new event after step in
+    let whole : IsLog text (script_text (with_events log.script lines)) new after = is_log text (with_events log.script lines) (more_spelled log.script lines log.spelled spelled) log.opened log.greeted log.opens new after on in
     subst (λ (bytes : List ℕ). IsLog text bytes new after) (more_text log.script lines ∙ ap (λ (bytes : List ℕ). bytes ++ event_lines lines) (sym log.is)) whole
 
 -- the log at the beginning
@@ -152,7 +135,7 @@ leaves told failure_count clock_told log_told lines clock rounds before asked ol
     ends_logged log_told text rounds serves.serves.heard serves.serves.intakes before serves.after result (record { held = held; tells = tells; is = is }) serves.serves.ends
 
 -- the log of a script whose match was refereed
-pub resumed_log : (text : List ℕ) (script : AbstractScript) (state : MatchState) (outbox : List (List ℕ)) → IsMatchOf text (config_for script.config) script.config.now (map event_for script.events) state outbox → ScriptHasSpelling script → IsLog text (script_text script) state outbox
+pub resumed_log : (text : List ℕ) (script : AbstractScript) (state : MatchState) (outbox : List (List ℕ)) → IsMatchOf text (config_for script.config) script.config.now script.events state outbox → ScriptHasSpelling script → IsLog text (script_text script) state outbox
 resumed_log text script state outbox played has =
     is_log text script has played.opened played.greeted played.opens state outbox (record {
       replayed = state;
@@ -196,6 +179,6 @@ opened_so told game text config now state outbox old new loads fits opens append
     (appends [] empty, log_begins game text config now state outbox loads fits opens)
 
 -- a match that goes on from a script, whose log has that script
-pub resumed_so : {W : Type 0} (told : W → List ℕ → Type 0) (text : List ℕ) (script : AbstractScript) (state : MatchState) (outbox : List (List ℕ)) (bytes : List ℕ) (old new : W) → IsMatchOf text (config_for script.config) script.config.now (map event_for script.events) state outbox → bytes ≡ script_text script → All EventHasSpelling script.events → Appends told old new bytes → ConfigHasSpelling script.config → told old [] → told new (script_text script) × IsLog text (script_text script) state outbox
+pub resumed_so : {W : Type 0} (told : W → List ℕ → Type 0) (text : List ℕ) (script : AbstractScript) (state : MatchState) (outbox : List (List ℕ)) (bytes : List ℕ) (old new : W) → IsMatchOf text (config_for script.config) script.config.now script.events state outbox → bytes ≡ script_text script → All EventHasSpelling script.events → Appends told old new bytes → ConfigHasSpelling script.config → told old [] → told new (script_text script) × IsLog text (script_text script) state outbox
 resumed_so told text script state outbox bytes old new played is spelled appends has empty =
     (subst (told new) is (appends [] empty), resumed_log text script state outbox played (record { config = has; events = spelled }))

@@ -1,6 +1,6 @@
 -- Lemmas on what is heard when a line is polled.
 use Rattle.std.proofs.Common.{◌≡◌, ◌≢◌, ℕ, ◌+◌, ◌<◌, ◌≤◌, List, [], ◌∷◌, ◌++◌, length, map, take, set, get_or, Bool, true, false, not, ap, sym, ◌∙◌, refl, subst, arith, append-nil, zero, suc}
-use Rattle.rbg_match.specs.Inputs.{AbstractEvent}
+use Rattle.rbg_script.specs.Events.{AbstractEvent}
 use Rattle.rbg_serving.proofs.Common.{Polled, LineState, after_poll, Heard, gave, ended, failed_to_give, seat_of, heard_at, event_of, is_end_of, is_failure_of, is_failed_put, is_round_over, IsLive, IsTimed, heard_alone, of_line, Behaviour, Intake, no_intake, intake_at, queued_at, Told, Tells, told_at, Start, HeardLast, Passed, has_taken, has_said, IsLineServed, AreServed, absent, heard_by_poll, is_last}
 use Rattle.rbg_serving.specs.declared.answer.Polled.TheVariants.{Got, Nothing, Ended, Failed}
 use Rattle.rbg_serving.proofs.InCallLemmas.{asked_alone}

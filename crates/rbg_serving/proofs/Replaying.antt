@@ -5,7 +5,8 @@ use Rattle.rbg_wire.specs.Streams.{Rest}
 use Rattle.rbg_wire.specs.declared.outcome.Outcome.{Outcome}
 use Rattle.rbg_rules.specs.Meaning.{AbstractGame}
 use Rattle.rbg_match.specs.declared.config.Config.{Config}
-use Rattle.rbg_match.proofs.Common.{Delivery, delivered, tick, HandlesInTime, Handles, AbstractEvent, piece, end_of_stream, moment_alone, Streams, counted, moment_of, inputs_in, inputs_at, rests_after, streams_after, timed_inputs_in, latest_moment, MatchState, Opens, Steps, StepsAll, AbstractPlay, due_of, HandlesAll}
+use Rattle.rbg_match.proofs.Common.{Delivery, delivered, tick, HandlesInTime, Handles, Streams, counted, inputs_in, inputs_at, rests_after, streams_after, timed_inputs_in, latest_moment, MatchState, Opens, Steps, StepsAll, AbstractPlay, due_of, HandlesAll}
+use Rattle.rbg_script.specs.Events.{AbstractEvent, piece, end_of_stream, moment_alone, moment_of}
 use Rattle.rbg_match.specs.Handling as handling
 use Rattle.rbg_match.specs.Matches as matches
 use Rattle.rbg_match.proofs.Delivering.{delivered-none}

@@ -1,7 +1,8 @@
 -- What is written of an event, by what the match tells.
 use Rattle.rbg_base.proofs.Common.{◌≡◌, ℕ, Bool, List, [], ◌∷◌, Option, Some, None, is_some, refl, sym, ap, ◌∙◌, MatchOption, if◌then◌else◌, none-some}
 use Rattle.rbg_wire.specs.declared.outcome.Outcome.{Outcome}
-use Rattle.rbg_match.proofs.Common.{AbstractEvent, counted, moment_of, MatchState, due_of}
+use Rattle.rbg_match.proofs.Common.{counted, MatchState, due_of}
+use Rattle.rbg_script.specs.Events.{AbstractEvent, moment_of}
 use Rattle.rbg_serving.specs.Written.{at_moment, is_quiet, written}
 
 same_number : (a b : ℕ) → ◌≡◌ {A = Option ℕ} (Some a) (Some b) → a ≡ b

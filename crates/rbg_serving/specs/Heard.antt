@@ -1,7 +1,7 @@
 -- What is heard of lines and clock in a call of `serve`.
 use Rattle.std.specs.Prelude.{◌≡◌, ◌==◌, ◌≤◌, ℕ, Bool, true, false, List, [], ◌∷◌, ◌++◌, if◌then◌else◌}
 use Rattle.std.specs.List.{flat_map, count_by}
-use Rattle.rbg_match.specs.Inputs.{AbstractEvent, piece, end_of_stream, moment_alone}
+use Rattle.rbg_script.specs.Events.{AbstractEvent, piece, end_of_stream, moment_alone}
 
 -- Something that is heard at a moment. A poll with the answer `Nothing` isn't heard.
 --   gave: the line of a seat was polled and gave bytes.

@@ -1,6 +1,6 @@
 -- A match with a log as a call of `serve` knows it.
 use Rattle.std.specs.Prelude.{◌≡◌, ◌⊎◌, ◌≤◌, ℕ, List, [], ◌++◌, take, Option, Some, None, IsSome, IsErrOf, Result}
-use Rattle.rbg_match.specs.Inputs.{AbstractEvent, moment_of}
+use Rattle.rbg_script.specs.Events.{AbstractEvent, moment_of}
 use Rattle.rbg_match.specs.Matches.{MatchState, Steps}
 use Rattle.rbg_serving.specs.declared.served.Served.{Served}
 use Rattle.rbg_serving.specs.declared.served.ServeError.{ServeError}

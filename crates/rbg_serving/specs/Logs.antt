@@ -1,31 +1,24 @@
 -- What the log of a match holds.
 use Rattle.std.specs.Prelude.{◌≡◌, ◌≤◌, ℕ, List, ◌++◌, All, map, take}
 use Rattle.rbg_match.specs.declared.config.Config.{Config}
-use Rattle.rbg_match.specs.Inputs.{AbstractEvent, piece, end_of_stream, moment_alone}
 use Rattle.rbg_match.specs.Limits.{latest_moment}
 use Rattle.rbg_match.specs.Matches.{MatchState, StepsAll}
 use Rattle.rbg_referee.specs.Refereed.{OpensText}
 use Rattle.rbg_referee.specs.Matches.{IsScriptRefereed}
-use Rattle.rbg_referee.specs.Scripts.{config_for, event_for}
+use Rattle.rbg_referee.specs.Scripts.{config_for}
 use Rattle.rbg_script.specs.Config.{config_text}
-use Rattle.rbg_script.specs.Events.{AbstractEvent as ScriptedEvent, piece_event, end_event, tick_event, EventHasSpelling, event_text}
+use Rattle.rbg_script.specs.Events.{EventHasSpelling, event_text, AbstractEvent}
 use Rattle.rbg_script.specs.Scripts.{AbstractScript, ScriptHasSpelling, SpellsScript, script_text}
 use Rattle.rbg_wire.specs.Lines.{line_of, lines_of}
 use Rattle.rbg_serving.specs.Written.{Replays}
 
--- the event of a script: the same seat, moment and bytes
-abbrev pub scripted : AbstractEvent → ScriptedEvent
-scripted (piece seat at bytes) = piece_event seat at bytes
-scripted (end_of_stream seat at) = end_event seat at
-scripted (moment_alone at) = tick_event at
-
 -- the line of an event
 abbrev pub event_line : AbstractEvent → List ℕ
-event_line event = line_of (event_text (scripted event))
+event_line event = line_of (event_text event)
 
 -- the lines of these events
 abbrev pub event_lines : List AbstractEvent → List ℕ
-event_lines events = lines_of (map (λ event. event_text (scripted event)) events)
+event_lines events = lines_of (map event_text events)
 
 -- the first line: how the match begins
 abbrev pub first_line : Config → (now : ℕ) → List ℕ
@@ -44,7 +37,7 @@ pub record AppendsFront {W : Type 0} (told : W → List ℕ → Type 0) (old new
 -- The lines of these events are appended, and each event has a spelling.
 pub record Logs {W : Type 0} (told : W → List ℕ → Type 0) (old new : W) (events : List AbstractEvent) : Type 0 where
   pub lines : Appends told old new (event_lines events)
-  pub spelled : All EventHasSpelling (map scripted events)
+  pub spelled : All EventHasSpelling events
 
 -- No more than a front part of their lines is appended.
 abbrev pub LogsPart : {W : Type 0} → (told : W → List ℕ → Type 0) → (old new : W) → (events : List AbstractEvent) → Type 0
@@ -62,6 +55,6 @@ pub record IsLog (text held : List ℕ) (state : MatchState) (queued : List (Lis
   pub greeted : List (List ℕ)
   pub opens : OpensText text (config_for script.config) script.config.now opened greeted
   pub replayed : MatchState
-  pub steps : StepsAll opened greeted (map event_for script.events) replayed queued
+  pub steps : StepsAll opened greeted script.events replayed queued
   pub replays : Replays replayed state
   pub counted : state.streams.moment ≤ latest_moment

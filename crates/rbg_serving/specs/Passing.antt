@@ -1,7 +1,7 @@
 -- How what is queued is passed to the lines in a call of `serve`, and what is heard in between.
 use Rattle.std.specs.Prelude.{◌≡◌, ◌⊎◌, ◌+◌, ◌<◌, ◌≤◌, ℕ, List, [], ◌∷◌, ◌++◌, length, slice_index_or, true, false}
 use Rattle.rbg_serving.specs.Heard.{Heard, event_of, is_failed_put, is_polled, seat_of, IsLive}
-use Rattle.rbg_match.specs.Inputs.{AbstractEvent}
+use Rattle.rbg_script.specs.Events.{AbstractEvent}
 
 -- What a line has taken in a call: how many of the bytes that are queued for its seat, and how often it took none of the
 -- bytes that it was offered.

@@ -1,7 +1,8 @@
 -- What is written of the events that come to a match.
 use Rattle.std.specs.Prelude.{◌≡◌, ◌≤◌, nat_lt, ℕ, Bool, false, List, [], ◌∷◌, ◌++◌, Some, is_some, if◌then◌else◌}
 use Rattle.rbg_wire.specs.declared.outcome.Outcome.{Outcome}
-use Rattle.rbg_match.specs.Inputs.{AbstractEvent, piece, end_of_stream, moment_alone, counted, moment_of}
+use Rattle.rbg_match.specs.Inputs.{counted}
+use Rattle.rbg_script.specs.Events.{AbstractEvent, piece, end_of_stream, moment_alone, moment_of}
 use Rattle.rbg_match.specs.Matches.{MatchState, Steps}
 use Rattle.rbg_match.specs.Play.{due_of}
 

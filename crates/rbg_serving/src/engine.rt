@@ -1,6 +1,6 @@
 //! What is served.
 ghost use Rattle.std.specs.Prelude.{◌≡◌, ◌≤◌, ◌-◌, ◌↔◌, ℕ, List, [], Option, length, slice_index_or, IsTrue, OnOk, OnErr};
-ghost use Rattle.rbg_match.specs.Inputs.{event_of};
+ghost use Rattle.rbg_script.specs.Events.{event_of};
 ghost use Rattle.rbg_match.specs.Matches.{HasHistory};
 ghost use Rattle.rbg_match.specs.PlayingOn.{seats_of};
 ghost use Rattle.rbg_rules.specs.Meaning.{AbstractGame};
@@ -8,7 +8,8 @@ ghost use Rattle.rbg_serving.specs.Passing.{Behaviour, ExtendAll};
 ghost use Rattle.rbg_serving.specs.Serving.{IsDueIn, of_match};
 
 use rbg_base::Memory;
-use rbg_match::{Event, Match, Outbox};
+use rbg_match::{Match, Outbox};
+use rbg_script::Event;
 use std::alloc::Global;
 
 /// What can be served, as a match: it handles events, and queues bytes for lines. Each line is a seat, and they are numbered
@@ -38,7 +39,7 @@ pub trait Engine {
     ghost first_due: { Self → Option ℕ → Type 0 };
 
     /// Handles an event.
-    fn handle(&mut self, event: Event<'_>, outbox: &mut Self::Outbox) -> Result<(), Memory>
+    fn handle(&mut self, event: Event<&[u8]>, outbox: &mut Self::Outbox) -> Result<(), Memory>
         requires { length (queued outbox.old) ≡ lines (fixed self.old) }
         ensures ok { OnOk result (behaviour.steps self.old (event_of event.entry) self.new
             (queued outbox.old) (queued outbox.new)) }
@@ -88,7 +89,7 @@ impl Engine for Match {
 
     ghost first_due = { IsDueIn };
 
-    fn handle(&mut self, event: Event<'_>, outbox: &mut Outbox) -> Result<(), Memory> {
+    fn handle(&mut self, event: Event<&[u8]>, outbox: &mut Outbox) -> Result<(), Memory> {
         self.step(event, outbox)
     }
 

@@ -2,7 +2,8 @@
 use crate::engine::Engine;
 use crate::{Log, LoggedMatch};
 use rbg_base::Memory;
-use rbg_match::{Event, Outbox};
+use rbg_match::Outbox;
+use rbg_script::Event;
 use std::alloc::Global;
 
 impl<W: Log> Engine for LoggedMatch<W> {
@@ -28,7 +29,7 @@ impl<W: Log> Engine for LoggedMatch<W> {
 
     ghost first_due = { λ logged due. IsDueIn logged.played due };
 
-    fn handle(&mut self, event: Event<'_>, outbox: &mut Outbox) -> Result<(), Memory> {
+    fn handle(&mut self, event: Event<&[u8]>, outbox: &mut Outbox) -> Result<(), Memory> {
         self.write(event)?;
         self.played.step(event, outbox)
     }

@@ -10,7 +10,7 @@ use crate::engine::Engine;
 use crate::line_state::LineState;
 use crate::{Line, Put};
 use rbg_base::Memory;
-use rbg_match::Event;
+use rbg_script::Event;
 
 /// Puts the rest of the bytes to a live line, until it has all of them, takes none, or fails.
 fn pass_to<L: Line>(line: &mut L, bytes: &[u8], state: &mut LineState)
@@ -98,7 +98,7 @@ pub(crate) fn pass<L: Line, E: Engine>(
 {
     while let Some(index) = pass_to_each::<L, E>(lines, states, outbox) {
         let seat = index as u64 + 1;
-        engine.handle(Event::Ended { seat, at }, outbox)?;
+        engine.handle(Event::Ended { source: seat, at }, outbox)?;
     }
     Ok(())
 }

@@ -1,6 +1,6 @@
 //! Rounds: each line is polled, and the clock ticks.
 ghost use Rattle.std.specs.Prelude.{◌≡◌, ◌<◌, ◌+◌, ◌++◌, ◌↔◌, ℕ, List, true, length, map, slice_index_or, option_to_list, IsTrue};
-ghost use Rattle.rbg_match.specs.Inputs.{event_of};
+ghost use Rattle.rbg_script.specs.Events.{event_of};
 ghost use Rattle.rbg_serving.specs.Answers.{FitsPoll};
 ghost use Rattle.rbg_serving.specs.Heard.{Heard, IsLive, event_of as heard_event};
 ghost use Rattle.rbg_serving.specs.Told.{Told};
@@ -15,7 +15,7 @@ use crate::line_state::LineState;
 use crate::passing::pass;
 use crate::{Clock, Line, Pause, Polled};
 use rbg_base::Memory;
-use rbg_match::Event;
+use rbg_script::Event;
 
 /// Whether a line that gives this answer has ended or failed.
 fn is_last(polled: Polled) -> bool
@@ -53,7 +53,7 @@ fn poll<L: Line>(
 }
 
 /// The event of a seat whose line was polled with this answer, which left this buffer.
-fn event_of(polled: Polled, seat: u64, at: u64, buffer: &[u8]) -> Option<Event<'_>>
+fn event_of(polled: Polled, seat: u64, at: u64, buffer: &[u8]) -> Option<Event<&[u8]>>
     requires { FitsPoll polled (length buffer.now) }
     ensures { map event_of (option_to_list result)
         ≡ map heard_event (heard_by_poll seat at polled buffer.now) }
@@ -61,11 +61,15 @@ fn event_of(polled: Polled, seat: u64, at: u64, buffer: &[u8]) -> Option<Event<'
     match polled {
         Polled::Got(count) => {
             let bytes = &buffer[..count];
-            Some(Event::Piece { seat, at, bytes })
+            Some(Event::Piece {
+                source: seat,
+                at,
+                bytes,
+            })
         }
         Polled::Nothing => None,
-        Polled::Ended => Some(Event::Ended { seat, at }),
-        Polled::Failed => Some(Event::Ended { seat, at }),
+        Polled::Ended => Some(Event::Ended { source: seat, at }),
+        Polled::Failed => Some(Event::Ended { source: seat, at }),
     }
 }
 

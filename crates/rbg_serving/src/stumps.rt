@@ -2,12 +2,12 @@
 
 use rbg_base::Memory;
 use rbg_match::MESSAGE_LIMIT;
-use rbg_script::ScriptEvent;
+use rbg_script::Event;
 
 /// Cuts off, for each of so many seats, the bytes of a message that wasn't complete. One that was too long already, so
 /// that the rest of it is passed over, is completed at this moment instead. So each seat's stream ends with a zero byte, or
 /// is empty.
-pub fn cut_stumps(seats: usize, at: u64, events: &mut Vec<ScriptEvent>) -> Result<(), Memory> {
+pub fn cut_stumps(seats: usize, at: u64, events: &mut Vec<Event<Vec<u8>>>) -> Result<(), Memory> {
     for seat in 1..=seats as u64 {
         let stump = stump_of(seat, events.as_slice());
         if stump <= MESSAGE_LIMIT {
@@ -20,7 +20,7 @@ pub fn cut_stumps(seats: usize, at: u64, events: &mut Vec<ScriptEvent>) -> Resul
 }
 
 /// How many bytes stand after the last zero byte of a seat's stream.
-fn stump_of(seat: u64, events: &[ScriptEvent]) -> usize {
+fn stump_of(seat: u64, events: &[Event<Vec<u8>>]) -> usize {
     let mut stump: usize = 0;
     for event in events {
         if let Some(bytes) = piece_of(seat, event) {
@@ -34,10 +34,10 @@ fn stump_of(seat: u64, events: &[ScriptEvent]) -> usize {
 }
 
 /// The bytes of an event, if it is a piece of that seat's stream.
-fn piece_of(seat: u64, event: &ScriptEvent) -> Option<&[u8]> {
+fn piece_of(seat: u64, event: &Event<Vec<u8>>) -> Option<&[u8]> {
     match event {
-        ScriptEvent::Piece {
-            seat: sender,
+        Event::Piece {
+            source: sender,
             bytes,
             ..
         } if *sender == seat => Some(bytes.as_slice()),
@@ -46,11 +46,11 @@ fn piece_of(seat: u64, event: &ScriptEvent) -> Option<&[u8]> {
 }
 
 /// Takes so many of the last bytes out of a seat's stream. Each event keeps its moment.
-fn cut_back(seat: u64, count: usize, events: &mut [ScriptEvent]) {
+fn cut_back(seat: u64, count: usize, events: &mut [Event<Vec<u8>>]) {
     let mut left = count;
     for event in events.iter_mut().rev() {
-        if let ScriptEvent::Piece {
-            seat: sender,
+        if let Event::Piece {
+            source: sender,
             bytes,
             ..
         } = event
@@ -65,9 +65,13 @@ fn cut_back(seat: u64, count: usize, events: &mut [ScriptEvent]) {
 }
 
 /// Adds the zero byte that completes a message.
-fn complete(seat: u64, at: u64, events: &mut Vec<ScriptEvent>) -> Result<(), Memory> {
+fn complete(seat: u64, at: u64, events: &mut Vec<Event<Vec<u8>>>) -> Result<(), Memory> {
     let mut bytes = Vec::new(*events.allocator());
     bytes.push(0)?;
-    events.push(ScriptEvent::Piece { seat, at, bytes })?;
+    events.push(Event::Piece {
+        source: seat,
+        at,
+        bytes,
+    })?;
     Ok(())
 }

@@ -1,30 +1,34 @@
 //! Writing an event, at its counted moment, before it is handled.
 ghost use Rattle.std.specs.Prelude.{◌≡◌, ◌∷◌, [], ℕ, OnOk, OnErr, IsErrOf, map, option_to_list};
 ghost use Rattle.rbg_match.specs.Arrivals.{arrival_of};
-ghost use Rattle.rbg_match.specs.Inputs.{counted, event_of, moment_of};
+ghost use Rattle.rbg_match.specs.Inputs.{counted};
 ghost use Rattle.rbg_match.specs.Matches.{MatchState};
 ghost use Rattle.rbg_match.specs.Play.{due_of};
-ghost use Rattle.rbg_script.specs.Events.{EventHasSpelling};
+ghost use Rattle.rbg_script.specs.Events.{EventHasSpelling, event_of, moment_of};
 ghost use Rattle.rbg_wire.specs.Writing.{AppendsAll};
-ghost use Rattle.rbg_serving.specs.Logs.{Logs, LogsPart, event_line, scripted};
+ghost use Rattle.rbg_serving.specs.Logs.{Logs, LogsPart, event_line};
 ghost use Rattle.rbg_serving.specs.LogServing.{IsOverAt, IsTimed};
 ghost use Rattle.rbg_serving.specs.Written.{at_moment, is_quiet, written};
 
 use crate::{Log, LoggedMatch, StopReason, WriteError};
 use rbg_base::Memory;
-use rbg_match::{Arrival, Event, LATEST_MOMENT, MESSAGE_LIMIT, Match};
-use rbg_script::{write_end, write_item, write_piece, write_tick};
+use rbg_match::{Arrival, LATEST_MOMENT, MESSAGE_LIMIT, Match};
+use rbg_script::{Event, write_end, write_item, write_piece, write_tick};
 
 /// Appends the line of an event at this moment. On an error the bytes are unchanged.
-fn write_event_line(event: Event<'_>, at: u64, out: &mut Vec<u8>) -> Result<(), Memory>
+fn write_event_line(event: Event<&[u8]>, at: u64, out: &mut Vec<u8>) -> Result<(), Memory>
     ensures written { AppendsAll out.old.items out.new.items
         (event_line (at_moment at (event_of event.entry))) result }
     ensures spelled { OnOk result
-        (EventHasSpelling (scripted (at_moment at (event_of event.entry)))) }
+        (EventHasSpelling (at_moment at (event_of event.entry))) }
 {
     match event {
-        Event::Piece { seat, bytes, .. } => write_piece(seat, at, bytes, out),
-        Event::Ended { seat, .. } => write_end(seat, at, out),
+        Event::Piece {
+            source: seat,
+            bytes,
+            ..
+        } => write_piece(seat, at, bytes, out),
+        Event::Ended { source: seat, .. } => write_end(seat, at, out),
         Event::Tick { .. } => write_tick(at, out),
     }
 }
@@ -34,7 +38,7 @@ fn write_line(arrival: Arrival<'_>, at: u64, out: &mut Vec<u8>) -> Result<(), Me
     ensures written { AppendsAll out.old.items out.new.items
         (event_line (at_moment at (arrival_of arrival.entry))) result }
     ensures spelled { OnOk result
-        (EventHasSpelling (scripted (at_moment at (arrival_of arrival.entry)))) }
+        (EventHasSpelling (at_moment at (arrival_of arrival.entry))) }
 {
     match arrival {
         Arrival::Plain(event) => write_event_line(event, at, out),
@@ -43,7 +47,7 @@ fn write_line(arrival: Arrival<'_>, at: u64, out: &mut Vec<u8>) -> Result<(), Me
 }
 
 /// Whether an event that counts at a moment is a moment alone, before the mover's time is over.
-fn is_quiet_event(event: Event<'_>, at: u64, due: u64) -> bool
+fn is_quiet_event(event: Event<&[u8]>, at: u64, due: u64) -> bool
     ensures { (state : MatchState) →
         at ≡ counted state.streams (moment_of (event_of event.entry)) →
         due ≡ due_of state.config state.play →
@@ -86,7 +90,7 @@ fn written_at(played: &Match, arrival: Arrival<'_>) -> Option<u64>
 /// Writes the line of an event that comes to a match, if it has one. `line` is a buffer: what it held is lost.
 pub fn write_event<W: Log>(
     played: &Match,
-    event: Event<'_>,
+    event: Event<&[u8]>,
     log: &mut W,
     line: &mut Vec<u8>,
 ) -> Result<(), WriteError>
@@ -140,7 +144,7 @@ fn write_at<W: Log>(
 
 impl<W: Log> LoggedMatch<W> {
     /// Writes what is written of an event, unless no more events are handled.
-    pub(crate) fn write(&mut self, event: Event<'_>) -> Result<(), Memory>
+    pub(crate) fn write(&mut self, event: Event<&[u8]>) -> Result<(), Memory>
         ensures played { self.new.played ≡ self.old.played }
         ensures until { self.new.until ≡ self.old.until }
         ensures going { OnOk result (self.new.stopped ≡ self.old.stopped) }

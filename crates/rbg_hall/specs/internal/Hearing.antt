@@ -5,7 +5,7 @@ use Rattle.rbg_hall.specs.Tables.{OwnEvent}
 use Rattle.rbg_hall.specs.Tellings.{Telling, told_to}
 use Rattle.rbg_hall.specs.Kept.{KeptState}
 use Rattle.rbg_hall.specs.declared.line.LinePhase.{LinePhase}
-use Rattle.rbg_hall.specs.Events.{AbstractHallEvent, sends, ends}
+use Rattle.rbg_script.specs.Events.{AbstractEvent, piece, end_of_stream}
 use Rattle.rbg_hall.specs.Halls.{line_beyond, refused_in}
 use Rattle.rbg_hall.specs.Ledgers.{Becomes, HallStops, HallWrites, KeptHearsEach}
 use Rattle.rbg_hall.specs.Lines.{HallLine}
@@ -53,12 +53,12 @@ pub record PieceHeard {W : Type 0} (tells : W → List ℕ → Type 0) (olds : L
   pub queued : after ≡ told_to before (refused_in (length olds) one line bytes ++ flat_map (λ one. one) told)
 
 -- what is heard of a line: bytes that it sends, or its end
-abbrev pub said_by : (line at : ℕ) → Option (List ℕ) → AbstractHallEvent
-said_by line at (Some bytes) = sends line at bytes
-said_by line at None = ends line at
+abbrev pub said_by : (line at : ℕ) → Option (List ℕ) → AbstractEvent
+said_by line at (Some bytes) = piece line at bytes
+said_by line at None = end_of_stream line at
 
 -- what a hall of these tables and lines writes, and where it stops
-abbrev pub KeptWrites : {W : Type 0} → (W → List ℕ → Type 0) → (tables : List (KeptState W)) → (lines : List LinePhase) → AbstractHallEvent →
+abbrev pub KeptWrites : {W : Type 0} → (W → List ℕ → Type 0) → (tables : List (KeptState W)) → (lines : List LinePhase) → AbstractEvent →
     (tables' : List (KeptState W)) → (lines' : List LinePhase) → (before after : List (List ℕ)) → Type 0
 KeptWrites told tables lines event tables' lines' before after =
     HallWrites told (hall_of tables lines) (ledgers_of tables) event (hall_of tables' lines') (ledgers_of tables') before after

@@ -1,7 +1,7 @@
 -- What is always so of a table and its log, and of what is written in parts.
 use Rattle.std.specs.Prelude.{◌≡◌, ℕ, List, Option, Some, None, slice_get}
 use Rattle.rbg_game.specs.Loading.{Loads}
-use Rattle.rbg_match.specs.Inputs.{AbstractEvent}
+use Rattle.rbg_script.specs.Events.{AbstractEvent}
 use Rattle.rbg_match.specs.Matches.{MatchState}
 use Rattle.rbg_hall.specs.Tables.{TableState, OwnEvent}
 use Rattle.rbg_serving.specs.declared.keeping.WriteError.{WriteError}

@@ -7,9 +7,9 @@ use Rattle.rbg_rules.specs.Meaning.{AbstractGame}
 use Rattle.rbg_match.specs.declared.config.Config.{Config}
 use Rattle.rbg_match.specs.declared.arrival.Arrival.{Arrival}
 use Rattle.rbg_match.specs.declared.arrival.Arrival.TheVariants.{Plain, Item}
-use Rattle.rbg_match.specs.declared.event.Event.TheVariants.{Piece, Ended, Tick}
+use Rattle.rbg_script.specs.declared.event.Event.TheVariants.{Piece, Ended, Tick}
 use Rattle.rbg_match.specs.Arrivals.{IsBetween}
-use Rattle.rbg_match.specs.Inputs.{AbstractEvent}
+use Rattle.rbg_script.specs.Events.{AbstractEvent}
 use Rattle.rbg_match.specs.Limits.{message_limit}
 use Rattle.rbg_match.specs.Matches.{MatchState, HasHistory, Opens, Steps}
 use Rattle.rbg_match.specs.PlayingOn.{seats_of}

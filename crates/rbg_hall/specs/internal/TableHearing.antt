@@ -1,6 +1,6 @@
 -- What a table does in parts, and what is queued for the lines then.
 use Rattle.std.specs.Prelude.{◌≡◌, ◌+◌, ◌<◌, ◌^◌, ℕ, List, Option, Some, None, slice_get}
-use Rattle.rbg_match.specs.Inputs.{AbstractEvent}
+use Rattle.rbg_script.specs.Events.{AbstractEvent}
 use Rattle.rbg_match.specs.Matches.{MatchState, Opens}
 use Rattle.rbg_hall.specs.Tables.{TableState, HasNoSeat, Plays, SitsAt}
 use Rattle.rbg_hall.specs.Tellings.{Telling, to_lines, told_to}

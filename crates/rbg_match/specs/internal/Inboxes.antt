@@ -1,7 +1,8 @@
 -- The inboxes of a match, between events.
 use Rattle.std.specs.Prelude.{◌≡◌, ◌<◌, ℕ, List, [], map, replicate, All, Result, IsOk}
 use Rattle.rbg_wire.specs.Streams.{Stream, Rest, incomplete}
-use Rattle.rbg_match.specs.Inputs.{AbstractEvent, IsTickAlone, rests_after}
+use Rattle.rbg_match.specs.Inputs.{IsTickAlone, rests_after}
+use Rattle.rbg_script.specs.Events.{AbstractEvent}
 use Rattle.rbg_match.specs.Limits.{message_limit}
 
 -- The inbox has the limit of a seat's message, and no complete item is left in it.

@@ -1,6 +1,6 @@
 -- The middle of a call of `serve`.
 use Rattle.std.specs.Prelude.{◌≡◌, ◌≤◌, ℕ, List, [], ◌∷◌, ◌++◌, length, Result, MatchResult, OnOk}
-use Rattle.rbg_match.specs.Inputs.{AbstractEvent}
+use Rattle.rbg_script.specs.Events.{AbstractEvent}
 use Rattle.rbg_serving.specs.declared.line_state.LineState.{LineState}
 use Rattle.rbg_serving.specs.declared.call.Call.{Call}
 use Rattle.rbg_serving.specs.Heard.{Heard, event_of, rounds_of, IsTimed, IsOfLiveLines}

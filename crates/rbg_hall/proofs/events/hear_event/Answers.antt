@@ -1,5 +1,6 @@
 use Rattle.rbg_base.proofs.Common.{sym, subst, on_err_weaker, on_ok_weaker, OnOk}
-use Rattle.rbg_hall.proofs.Common.{event_of, HallWrites, hall_of, ledgers_of}
+use Rattle.rbg_hall.proofs.Common.{HallWrites, hall_of, ledgers_of}
+use Rattle.rbg_script.specs.Events.{event_of}
 use Rattle.rbg_hall.proofs.Halls.{clock_ticks, hall_stops}
 use Rattle.rbg_hall.proofs.events.hear_event.Goals as goal
 

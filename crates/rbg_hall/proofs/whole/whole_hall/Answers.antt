@@ -1,5 +1,6 @@
 use Rattle.std.proofs.Common.{[], map}
-use Rattle.rbg_hall.proofs.Common.{event_of, starts_of}
+use Rattle.rbg_hall.proofs.Common.{starts_of}
+use Rattle.rbg_script.specs.Events.{event_of}
 use Rattle.rbg_hall.proofs.Openings.{memory_passed}
 use Rattle.rbg_hall.proofs.Wholes.{of_hall, new_run}
 use Rattle.rbg_hall.proofs.whole.whole_hall.Goals as goal

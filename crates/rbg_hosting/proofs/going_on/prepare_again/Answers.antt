@@ -17,11 +17,11 @@ returns-clause-prepared g c =
     let first = c.in_ok-hall.ensures in
     let tables = c.in_ok-tables.tables.items in
     let pasts = pasts_in c.in_ok-pasts.pasts.items in
-    let texts = texts_of c.args.descriptions.now in
-    prepared_again c.args.serving.now.config c.in_ok-config.config texts _ _ c.keep_again.new.hall c.in_ok-hall.out pasts c.in_ok-players.players.items c.in_ok-noted.noted.items tables
-    (length-map c.in_ok-pasts.pasts.items past_in_code ∙ c.in_ok-pasts.ensures.as_many ∙ sym (texts_count c.args.descriptions.now))
+    let texts = texts_of c.args.resumed.descriptions.now in
+    prepared_again c.args.resumed.serving.now.config c.in_ok-config.config texts _ _ c.keep_again.new.hall c.in_ok-hall.out pasts c.in_ok-players.players.items c.in_ok-noted.noted.items tables
+    (length-map c.in_ok-pasts.pasts.items past_in_code ∙ c.in_ok-pasts.ensures.as_many ∙ sym (texts_count c.args.resumed.descriptions.now))
     c.in_ok-pasts.ensures.logs
-    (c.in_ok-config.ensures.is ∙ ap (λ them. config_from c.args.serving.now.config (pasts_in them)) c.as_slice.ensures.value)
+    (c.in_ok-config.ensures.is ∙ ap (λ them. config_from c.args.resumed.serving.now.config (pasts_in them)) c.as_slice.ensures.value)
     (subst (λ them. All (HasConfig c.in_ok-config.config) (pasts_in them)) c.as_slice.ensures.value c.in_ok-config.ensures.all)
     c.in_ok-tables.ensures.tables
     (record {
@@ -41,7 +41,7 @@ returns-clause-as_many g c =
     ∙ length-map c.as_slice-2.result.now (λ (table : Table). seats_of table.game)
     ∙ ap length c.as_slice-2.ensures.value
     ∙ sym (length-map c.in_ok-tables.tables.items start_of)
-    ∙ as_many c.in_ok-config.config (texts_of c.args.descriptions.now) (starts_of c.in_ok-tables.tables.items) c.in_ok-tables.ensures.tables
-    ∙ texts_count c.args.descriptions.now
+    ∙ as_many c.in_ok-config.config (texts_of c.args.resumed.descriptions.now) (starts_of c.in_ok-tables.tables.items) c.in_ok-tables.ensures.tables
+    ∙ texts_count c.args.resumed.descriptions.now
     ∙ sym c.in_ok-pasts.ensures.as_many in
     omega (arith, same)

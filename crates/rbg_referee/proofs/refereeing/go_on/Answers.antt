@@ -1,5 +1,5 @@
 use Rattle.rbg_base.proofs.Common.{map, take, length-map}
-use Rattle.rbg_match.specs.Inputs.{event_of}
+use Rattle.rbg_script.specs.Events.{event_of}
 use Rattle.rbg_referee.proofs.RefereedLemmas.{refereed_with, is_still_in_play}
 use Rattle.rbg_referee.proofs.refereeing.go_on.Goals as goal
 

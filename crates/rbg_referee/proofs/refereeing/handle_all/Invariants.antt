@@ -1,5 +1,6 @@
 use Rattle.std.proofs.Common.{◌≡◌, length, map, take, false}
-use Rattle.rbg_match.proofs.Common.{seats_of, event_of, HasHistory, StepsAll}
+use Rattle.rbg_match.proofs.Common.{seats_of, HasHistory, StepsAll}
+use Rattle.rbg_script.specs.Events.{event_of}
 use Rattle.rbg_referee.proofs.refereeing.handle_all.Given as goal
 
 abbrev pub invariant-loop-done : goal.invariant-loop-done

@@ -1,5 +1,5 @@
 use Rattle.rbg_base.proofs.Common.{map, err_from_is_err_and}
-use Rattle.rbg_match.specs.Inputs.{event_of}
+use Rattle.rbg_script.specs.Events.{event_of}
 use Rattle.rbg_match.proofs.WholeMatch.{seats_of_opened}
 use Rattle.rbg_referee.proofs.RefereedLemmas.{refused_by}
 use Rattle.rbg_referee.proofs.refereeing.referee_match.Goals as goal

@@ -2,7 +2,7 @@
 use Rattle.rbg_base.proofs.Common.{rules, ◌≡◌, ◌∙◌, sym, true, false, length, length-map, nil_from_length}
 use Rattle.std.proofs.lemmas.Bool.{eqb-true}
 use Rattle.rbg_script.specs.declared.error.ScriptError.TheVariants.{Memory as OutOfMemory}
-use Rattle.rbg_script.specs.Events.{event_of}
+use Rattle.rbg_script.specs.Events.{owned_event_of}
 use Rattle.rbg_script.specs.internal.Reading.{out_of_memory}
 use Rattle.rbg_base.proofs.Errors.{passed_on}
 use Rattle.rbg_script.proofs.ScriptLemmas.{all_read, not_empty, read_more, stopped}
@@ -17,7 +17,7 @@ returns-then-not-branch-clause-line c =
     let none : c.in_ok-take_line.field-0 ≡ false = search rules in
     let count : c.len.result ≡ length c.take_line.new.events.items = search rules in
     stopped _ _ _ _ _ _ _ _ c.loop-left.invariant c.first_line.ensures (not_empty _ _ c.is_empty.ensures some) c.in_ok-take_line.ensures none
-    (length-map c.take_line.new.events.items event_of ∙ sym count)
+    (length-map c.take_line.new.events.items owned_event_of ∙ sym count)
 
 pub loop-left-preserved : goal.loop-left-preserved
 loop-left-preserved c =

@@ -1,6 +1,6 @@
 -- The match handles what was written.
 use Rattle.std.proofs.lemmas.Result.{on_err_weaker, on_ok_weaker}
-use Rattle.rbg_match.specs.Inputs.{event_of}
+use Rattle.rbg_script.specs.Events.{event_of}
 use Rattle.rbg_serving.proofs.LinesLemmas.{step_extends}
 use Rattle.rbg_serving.proofs.Logging.{handled_so, unhandled_so}
 use Rattle.rbg_serving.proofs.log_engine.LoggedMatchEngine.handle.Goals as goal
