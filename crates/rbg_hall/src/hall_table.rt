@@ -182,7 +182,7 @@ impl HallTable {
         }
     }
 
-    /// The index of the seat on which a line sits. It is that of the next number.
+    /// The index of the seat on which a line sits. The seat's number is one more.
     pub(crate) fn seat_of(&self, line: u64) -> Option<usize>
         ensures sits { IfSome result (SitsAt self.now line) }
         ensures small { IfSome result (λ index. index + 1 < 2 ^ 64) }

@@ -120,7 +120,7 @@ fn begin<W: Log>(
     }
 }
 
-/// A table hears something, whose match has this log: each event is written before the match handles it.
+/// A table hears something, whose match has this log: each event that counts is written before the match handles it.
 #[tactic(auto, using(crate::proofs::Keeping::keeps_on))]
 fn hear_noted<W: Log>(
     table: &mut HallTable,
@@ -147,7 +147,7 @@ fn hear_noted<W: Log>(
     begin(table, before, log, line)
 }
 
-/// A table hears something. Where there is a log of its match, each event is written before the match handles it.
+/// A table hears something. If there is a log of its match, each event that counts is written before the match handles it.
 pub(crate) fn hear_kept<W: Log>(
     table: &mut HallTable,
     input: TableInput<'_>,

@@ -1,17 +1,10 @@
--- The limits of a match.
+-- The limits of a match. Those of its config are a script's: a turn, and the refusals that may be allowed.
 use Rattle.std.specs.Prelude.{ℕ}
+pub use Rattle.rbg_script.specs.Limits.{longest_turn, most_refusals}
 
 -- a match has at most this many seats
 abbrev pub most_seats : ℕ
 most_seats = 8
-
--- a turn lasts at most this many milliseconds: one hour
-abbrev pub longest_turn : ℕ
-longest_turn = 3600000
-
--- at most this many refused messages may be allowed to a seat
-abbrev pub most_refusals : ℕ
-most_refusals = 100
 
 -- a seat's message has at most this many bytes, without its zero byte
 abbrev pub message_limit : ℕ

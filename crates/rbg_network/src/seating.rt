@@ -5,6 +5,7 @@ ghost use Rattle.std.specs.Prelude.{◌≡◌, ◌<◌, length, IfOk, IfSome};
 use crate::gathering::{GatherError, Hosting, is_closed, is_full, is_late, lines_of};
 use crate::network::is_nothing_yet;
 use crate::{MatchNews, Network, News, StreamLine};
+use rbg_match::MESSAGE_LIMIT;
 use rbg_serving::{Clock, Line, Pause, Polled};
 use rbg_wire::{Message, Reason, cut_at, read_message, write_message};
 use std::alloc::{AllocError, Global};
@@ -17,12 +18,10 @@ pub enum LinePlace {
     Nobody,
     /// For a player of the match of this number. The hall hears that it asks for a seat.
     New(u64),
-    /// For a player of this match who had the seat before. The hall has heard that.
+    /// For a player of this match, which goes on. The hall has heard that the line asks for a seat. Who had the seat before
+    /// isn't known: the order of connecting decides.
     Known(u64),
 }
-
-/// The longest message, in bytes. A message of more is too long.
-const MESSAGE_LIMIT: usize = 4096;
 
 /// How many may wait for a place. If one more comes, the one who has waited longest leaves.
 const MOST_GUESTS: usize = 128;

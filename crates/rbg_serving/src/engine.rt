@@ -12,8 +12,8 @@ use rbg_match::{Match, Outbox};
 use rbg_script::Event;
 use std::alloc::Global;
 
-/// What can be served, as a match: it handles events, and queues bytes for lines. Each line is a seat, and they are numbered
-/// from 1.
+/// What can be served, as a match: it handles events, and queues bytes for lines. Lines are numbered
+/// from 1: those of a match are its seats, those of a hall its lines.
 pub trait Engine {
     /// Where the bytes are queued.
     type Outbox;
@@ -35,7 +35,7 @@ pub trait Engine {
     /// What it keeps as long as there is memory.
     ghost valid: { Self → Type 0 };
 
-    /// Whether this is the moment at which the time of the first is over for whom it is over, if there is one.
+    /// Whether this is the first moment at which some mover's time is over, if there is one.
     ghost first_due: { Self → Option ℕ → Type 0 };
 
     /// Handles an event.

@@ -15,8 +15,8 @@ use crate::{Log, LoggedMatch};
 use rbg_match::Outbox;
 
 impl<W: Log> LoggedMatch<W> {
-    /// Serves the match over a line for each seat, as `crate::serving::serve` does, and writes each event to the log before
-    /// the match handles it. So the log is a script of the match, in play too. Where the log fails, or the
+    /// Serves the match over a line for each seat, as `crate::serving::serve` does, and writes each event that counts to the log
+    /// before the match handles it. So the log is a script of the match, in play too. Where the log fails, or the
     /// time for the match is over, serving ends with `Memory`, and `stopped` tells why.
     pub fn serve<L: Line, C: Clock>(
         &mut self,

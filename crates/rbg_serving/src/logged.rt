@@ -14,7 +14,8 @@ pub enum StopReason {
     Time,
 }
 
-/// A match with a log, in which each event is written before the match handles it.
+/// A match with a log. Each event that counts is written before the match handles it: not a tick before the due moment, and
+/// nothing after the end.
 #[derive(Drop)]
 pub struct LoggedMatch<W: Log> {
     pub(crate) played: Match,
