@@ -1,6 +1,7 @@
 -- What comes of a hall that was served.
 use Rattle.rbg_base.proofs.Common.{◌≡◌, ℕ, Bool, true, false, List, [], ◌++◌, Option, Result, Ok, Err, IfOk, OnOk, length, length-replicate, replicate, ap, sym, ◌∙◌, refl, subst}
-use Rattle.rbg_hall.proofs.Common.{AbstractHallEvent, AbstractTable, HallState, HeldHall}
+use Rattle.rbg_hall.proofs.Common.{AbstractTable, HallState, HeldHall}
+use Rattle.rbg_script.specs.Events.{AbstractEvent}
 use Rattle.rbg_match.specs.declared.config.Config.{Config}
 use Rattle.rbg_network.specs.Archives.{Handed, is_any_lost}
 use Rattle.rbg_referee.specs.declared.answer.Answer.{Answer}
@@ -56,7 +57,7 @@ fresh_recorder told recorder archive noted wants matches of_archive of_noted of_
     )
 
 -- what was handed to the archive, with its run
-archived_hall : {A : Type 0} {told : A → List Handed → Type 0} (config : Config) (descriptions : List (List ℕ)) (wants : Bool) (tables : List AbstractTable) (matches : ℕ) (events : List AbstractHallEvent) (recorder : Recorder A) {state : HallState} →
+archived_hall : {A : Type 0} {told : A → List Handed → Type 0} (config : Config) (descriptions : List (List ℕ)) (wants : Bool) (tables : List AbstractTable) (matches : ℕ) (events : List AbstractEvent) (recorder : Recorder A) {state : HallState} →
     AreTablesOf config descriptions tables →
     length tables ≡ matches →
     (archived : HasArchived told tables (wanted_of wants matches) events recorder state) →
@@ -68,7 +69,7 @@ archived_hall config descriptions wants tables matches events recorder {state} a
 }
 
 -- what comes of it
-pub outcome_so : {W A C U : Type 0} (told : A → List Handed → Type 0) (clock : C → List ℕ → Type 0) (served : Result U ServingFault) (result : Result Answer ServingFault) (recorded : RecordedHall W A) (config : Config) (descriptions : List (List ℕ)) (pasts : List (Option AbstractScript)) (wants : Bool) (tables : List AbstractTable) (matches : ℕ) (past : List AbstractHallEvent) →
+pub outcome_so : {W A C U : Type 0} (told : A → List Handed → Type 0) (clock : C → List ℕ → Type 0) (served : Result U ServingFault) (result : Result Answer ServingFault) (recorded : RecordedHall W A) (config : Config) (descriptions : List (List ℕ)) (pasts : List (Option AbstractScript)) (wants : Bool) (tables : List AbstractTable) (matches : ℕ) (past : List AbstractEvent) →
     AreTablesOf config descriptions tables →
     length tables ≡ matches →
     past ≡ past_in tables pasts →

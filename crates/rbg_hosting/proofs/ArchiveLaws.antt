@@ -2,7 +2,8 @@
 use Rattle.rbg_base.proofs.Common.{◌≡◌, ◌⊎◌, inl, inr, ◌==◌, ℕ, zero, suc, ◌+◌, ◌<◌, ◌≤◌, List, [], ◌∷◌, ◌++◌, Bool, true, false, cond, Option, Some, None, is_some, Contains, Contains-append_cases, Contains-push_cases, count_by, sum_by-append, ap, sym, ◌∙◌, refl, subst, none-some, same_Some, arith, cases_eq, eq-eqb, zero-add}
 use Rattle.std.proofs.lemmas.Bool.{ne_eqb}
 use Rattle.rbg_match.specs.Matches.{MatchState}
-use Rattle.rbg_hall.proofs.Common.{AbstractHallEvent, AbstractTable, HallState, begun_at}
+use Rattle.rbg_hall.proofs.Common.{AbstractTable, HallState, begun_at}
+use Rattle.rbg_script.specs.Events.{AbstractEvent}
 use Rattle.rbg_hall.specs.Serving.{has_ended}
 use Rattle.rbg_hall.specs.Tables.{TableState}
 use Rattle.rbg_network.specs.Archives.{Handed, kept}
@@ -73,7 +74,7 @@ carried stand (suc index) bytes at = record {
   record_so = at.record_so;
 }
 
-kept_stands : {starts : List AbstractTable} {matches : ℕ} {events : List AbstractHallEvent} {state : HallState} {queues : List (List ℕ)} {handed : List Handed} → IsArchivedRun starts matches events state queues handed → (number : ℕ) (bytes : List ℕ) → Contains handed (kept number bytes) → KeptAt state.tables number bytes
+kept_stands : {starts : List AbstractTable} {matches : ℕ} {events : List AbstractEvent} {state : HallState} {queues : List (List ℕ)} {handed : List Handed} → IsArchivedRun starts matches events state queues handed → (number : ℕ) (bytes : List ℕ) → Contains handed (kept number bytes) → KeptAt state.tables number bytes
 kept_stands begins number bytes there = absurd (none_in _ there)
 kept_stands (hears {handed = handed} {more = more} run heard are) number bytes there =
     elim (Contains-append_cases handed more (kept number bytes) there) [
@@ -154,7 +155,7 @@ unfolding since
 times_since true after stays = sym (ap times (stays refl))
 times_since false after stays = zero-add (times after)
 
-run_count : {starts : List AbstractTable} {matches : ℕ} {events : List AbstractHallEvent} {state : HallState} {queues : List (List ℕ)} {handed : List Handed} → IsArchivedRun starts matches events state queues handed → (index : ℕ) → index < matches → count_by (is_of (suc index)) handed ≡ times (has_ended (begun_at state.tables (suc index)))
+run_count : {starts : List AbstractTable} {matches : ℕ} {events : List AbstractEvent} {state : HallState} {queues : List (List ℕ)} {handed : List Handed} → IsArchivedRun starts matches events state queues handed → (index : ℕ) → index < matches → count_by (is_of (suc index)) handed ≡ times (has_ended (begun_at state.tables (suc index)))
 run_count {starts = starts} begins index below = sym (ap times (unbegun starts index))
 run_count (hears {old = old} {new = new} {handed = handed} {more = more} run heard are) index below =
     count-append (suc index) handed more

@@ -1,7 +1,8 @@
 -- Lemmas on why a hall has no printed lines.
-use Rattle.rbg_base.proofs.Common.{◌≡◌, ℕ, ◌≤◌, List, All, Some, length, map, slice_get, sym, subst, length-map, All-get_or, slice_get_within, get_or_from_slice_get}
+use Rattle.rbg_base.proofs.Common.{◌≡◌, ℕ, ◌≤◌, List, All, Some, length, slice_get, sym, subst, length-map, All-get_or, slice_get_within, get_or_from_slice_get}
 use Rattle.std.specs.Global.{Vec}
-use Rattle.rbg_hall.proofs.Common.{AbstractHallEvent, AbstractTable, most_tables, IsRefusedHall}
+use Rattle.rbg_hall.proofs.Common.{AbstractTable, most_tables, IsRefusedHall}
+use Rattle.rbg_script.specs.Events.{AbstractEvent}
 use Rattle.rbg_hall.specs.Openings.IsRefusedHall.{tables as wrong_tables, config as wrong_config, memory as no_memory}
 use Rattle.rbg_hall.specs.Wholes.{IsOfHall as IsAllowedHall}
 use Rattle.rbg_hall.specs.declared.error.HallError.{HallError}
@@ -16,7 +17,6 @@ use Rattle.rbg_script.specs.Scripts.{AbstractScript, SpellsScript, HasMisfit, Is
 use Rattle.rbg_hosting.specs.declared.error.HostingError.{HostingError}
 use Rattle.rbg_hosting.specs.Errors.{IsOfHall}
 use Rattle.rbg_hosting.specs.Halls.{MayBeDescriptions, IsHeardHall, IsNoHall, IsNotHeard}
-use Rattle.rbg_hosting.specs.Scripts.{event_for}
 use Rattle.rbg_hosting.specs.Tables.{texts_of, IsGames, AreTablesOf}
 use Rattle.rbg_hosting.proofs.TableLemmas.{as_many, config_in}
 
@@ -58,7 +58,7 @@ pub texts_count : (descriptions : List (Vec ℕ)) → length (texts_of descripti
 texts_count descriptions = length-map descriptions (λ (d : Vec ℕ). d.items)
 
 -- the hall that has these tables has heard the script
-pub heard_hall : (descriptions : List (List ℕ)) (script : AbstractScript) (tables : List AbstractTable) (config : Config) (events : List AbstractHallEvent) (queues : List (List ℕ)) → config ≡ config_for script.config → AreTablesOf config descriptions tables → events ≡ map event_for script.events → IsAllowedHall tables events queues → IsHeardHall descriptions script queues
+pub heard_hall : (descriptions : List (List ℕ)) (script : AbstractScript) (tables : List AbstractTable) (config : Config) (events : List AbstractEvent) (queues : List (List ℕ)) → config ≡ config_for script.config → AreTablesOf config descriptions tables → events ≡ script.events → IsAllowedHall tables events queues → IsHeardHall descriptions script queues
 heard_hall descriptions script tables config events queues is are same heard = record {
   tables = tables;
   are = subst (λ c. AreTablesOf c descriptions tables) is are;

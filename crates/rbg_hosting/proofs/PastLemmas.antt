@@ -1,19 +1,20 @@
 -- A hall hears what its logs hold.
 use Rattle.rbg_base.proofs.Common.{◌≡◌, ℕ, zero, suc, ◌+◌, ◌-◌, ◌<◌, ◌≤◌, ◌&&◌, List, [], ◌∷◌, ◌++◌, All, Bool, true, false, Option, Some, None, Result, Ok, Err, MatchResult, if◌then◌else◌, option_map, length, length-map, map, take, drop, get_or, ap, sym, ◌∙◌, refl, subst, append_assoc, append-nil, map-append, take-append-drop, All-push, IfOk, add-one}
+use Rattle.std.specs.Borrow.{Bor}
+use Rattle.std.specs.Global.{Vec}
 use Rattle.std.proofs.lemmas.List.{drop_all, drop_more, take_more}
 use Rattle.std.proofs.lemmas.Simd.{map-map}
 use Rattle.rbg_base.proofs.CallerLemmas.{map-take_more}
-use Rattle.rbg_hall.proofs.Common.{AbstractHallEvent, AbstractTable, HallHears, HallState, event_of, sends}
-use Rattle.rbg_hall.specs.declared.event.HallEvent.{HallEvent}
+use Rattle.rbg_hall.proofs.Common.{AbstractTable, HallHears, HallState}
+use Rattle.rbg_script.specs.Events.{AbstractEvent, event_of, piece, owned_event_of}
+use Rattle.rbg_script.specs.declared.event.Event.{Event}
 use Rattle.rbg_match.specs.declared.config.Config.{Config}
 use Rattle.rbg_network.specs.Archives.{Handed}
 use Rattle.rbg_referee.specs.Scripts.{config_for}
 use Rattle.rbg_console.specs.Files.{MayBe}
-use Rattle.rbg_script.specs.Events.{AbstractEvent as ScriptedEvent, event_of as scripted_event}
 use Rattle.rbg_script.specs.Scripts.{AbstractScript, SpellsScript, script_of}
 use Rattle.rbg_serving.specs.Cutting.{AreWholeLines}
 use Rattle.rbg_wire.specs.Messages.{join_message, spelling}
-use Rattle.rbg_script.specs.declared.event.ScriptEvent.{ScriptEvent}
 use Rattle.rbg_script.specs.declared.script.Script.{Script}
 use Rattle.rbg_hosting.specs.Moments.HearsPast.{part}
 use Rattle.rbg_hosting.specs.Pasts.{AreLogs, HasConfig, IsLogOf, config_from, past_from, past_of, script_from, sent_by_each}
@@ -27,7 +28,7 @@ use Rattle.rbg_hosting.specs.internal.Resuming.{past_in_code, pasts_in}
 use Rattle.rbg_hosting.proofs.RecordedLemmas.{StoppedSo, has_archived, heard_next}
 
 -- a hall that has heard so many of some events hears the next one
-pub one_heard : {A : Type 0} {told : A → List Handed → Type 0} {starts : List AbstractTable} {matches : ℕ} {before after : Recorder A} {old new : HallState} {queues queued : List (List ℕ)} (earlier : List AbstractHallEvent) (events : List HallEvent) (index : ℕ) (read : HallEvent) →
+pub one_heard : {A : Type 0} {told : A → List Handed → Type 0} {starts : List AbstractTable} {matches : ℕ} {before after : Recorder A} {old new : HallState} {queues queued : List (List ℕ)} (earlier : List AbstractEvent) (events : List (Event (Bor (List ℕ)))) (index : ℕ) (read : Event (Bor (List ℕ))) →
     index < length events →
     HasHeard told starts matches before (earlier ++ map event_of (take index events)) old queues →
     HallHears old (event_of (get_or events index read)) new queues queued × HandsOver told before after old.tables new.tables →
@@ -39,7 +40,7 @@ one_heard {told = told} {starts = starts} {matches = matches} {after = after} {n
     (heard_next so_far hears.0 hears.1)
 
 -- it stops at one of them
-pub stopped_at : {A : Type 0} {told : A → List Handed → Type 0} {starts : List AbstractTable} {matches : ℕ} {before after : Recorder A} {earlier : List AbstractHallEvent} {state : HallState} {queues : List (List ℕ)} (events : List HallEvent) (index : ℕ) →
+pub stopped_at : {A : Type 0} {told : A → List Handed → Type 0} {starts : List AbstractTable} {matches : ℕ} {before after : Recorder A} {earlier : List AbstractEvent} {state : HallState} {queues : List (List ℕ)} (events : List (Event (Bor (List ℕ)))) (index : ℕ) →
     HasHeard told starts matches before (earlier ++ map event_of (take index events)) state queues →
     after ≡ before →
     HasStopped told starts matches after earlier (map event_of events)
@@ -53,7 +54,7 @@ stopped_at {told = told} {starts = starts} {matches = matches} {earlier = earlie
 }
 
 -- it stops before all of them
-pub stopped_first : {A : Type 0} {told : A → List Handed → Type 0} {starts : List AbstractTable} {matches : ℕ} {recorder : Recorder A} {earlier : List AbstractHallEvent} {state : HallState} {queues : List (List ℕ)} (more : List AbstractHallEvent) →
+pub stopped_first : {A : Type 0} {told : A → List Handed → Type 0} {starts : List AbstractTable} {matches : ℕ} {recorder : Recorder A} {earlier : List AbstractEvent} {state : HallState} {queues : List (List ℕ)} (more : List AbstractEvent) →
     HasHeard told starts matches recorder earlier state queues →
     HasStopped told starts matches recorder earlier more
 stopped_first {told = told} {starts = starts} {matches = matches} {recorder = recorder} {earlier = earlier} {state = state} {queues = queues} more so_far = record {
@@ -66,17 +67,17 @@ stopped_first {told = told} {starts = starts} {matches = matches} {recorder = re
 }
 
 -- what is to be heard is the same
-pub hears_same : {W A U E : Type 0} (told : A → List Handed → Type 0) (old new : RecordedHall W A) (before after : List (List ℕ)) (more other : List AbstractHallEvent) (result : Result U E) → more ≡ other → HearsMore told old new before after more result → HearsMore told old new before after other result
+pub hears_same : {W A U E : Type 0} (told : A → List Handed → Type 0) (old new : RecordedHall W A) (before after : List (List ℕ)) (more other : List AbstractEvent) (result : Result U E) → more ≡ other → HearsMore told old new before after more result → HearsMore told old new before after other result
 hears_same told old new before after more other result same hears = subst (λ events. HearsMore told old new before after events result) same hears
 
 -- What a hall has heard of what it has to hear, and what it has to hear still.
-pub record HasHeardPart {A : Type 0} (told : A → List Handed → Type 0) (starts : List AbstractTable) (matches : ℕ) (recorder : Recorder A) (earlier more left : List AbstractHallEvent) (state : HallState) (queues : List (List ℕ)) : Type 0 where
-  pub heard : List AbstractHallEvent
+pub record HasHeardPart {A : Type 0} (told : A → List Handed → Type 0) (starts : List AbstractTable) (matches : ℕ) (recorder : Recorder A) (earlier more left : List AbstractEvent) (state : HallState) (queues : List (List ℕ)) : Type 0 where
+  pub heard : List AbstractEvent
   pub parts : more ≡ heard ++ left
   pub is : HasHeard told starts matches recorder (earlier ++ heard) state queues
 
 -- at first it has heard nothing
-pub none_heard : {A : Type 0} {told : A → List Handed → Type 0} {starts : List AbstractTable} {matches : ℕ} {recorder : Recorder A} {earlier : List AbstractHallEvent} {state : HallState} {queues : List (List ℕ)} (more : List AbstractHallEvent) →
+pub none_heard : {A : Type 0} {told : A → List Handed → Type 0} {starts : List AbstractTable} {matches : ℕ} {recorder : Recorder A} {earlier : List AbstractEvent} {state : HallState} {queues : List (List ℕ)} (more : List AbstractEvent) →
     HasHeard told starts matches recorder earlier state queues →
     HasHeardPart told starts matches recorder earlier more more state queues
 none_heard {told = told} {starts = starts} {matches = matches} {recorder = recorder} {earlier = earlier} {state = state} {queues = queues} more so_far = record {
@@ -86,10 +87,10 @@ none_heard {told = told} {starts = starts} {matches = matches} {recorder = recor
 }
 
 -- then some more
-pub part_heard : {A : Type 0} {told : A → List Handed → Type 0} {starts : List AbstractTable} {matches : ℕ} {before after : Recorder A} {earlier more left next rest : List AbstractHallEvent} {old new : HallState} {queues queued : List (List ℕ)} →
+pub part_heard : {A : Type 0} {told : A → List Handed → Type 0} {starts : List AbstractTable} {matches : ℕ} {before after : Recorder A} {earlier more left next rest : List AbstractEvent} {old new : HallState} {queues queued : List (List ℕ)} →
     left ≡ next ++ rest →
     HasHeardPart told starts matches before earlier more left old queues →
-    ((events : List AbstractHallEvent) → HasHeard told starts matches before events old queues → HasHeard told starts matches after (events ++ next) new queued) →
+    ((events : List AbstractEvent) → HasHeard told starts matches before events old queues → HasHeard told starts matches after (events ++ next) new queued) →
     HasHeardPart told starts matches after earlier more rest new queued
 part_heard {told = told} {starts = starts} {matches = matches} {after = after} {earlier = earlier} {next = next} {rest = rest} {new = new} {queued = queued} parts so_far hears = record {
   heard = so_far.heard ++ next;
@@ -98,10 +99,10 @@ part_heard {told = told} {starts = starts} {matches = matches} {after = after} {
 }
 
 -- or it stops there
-pub part_stopped : {A : Type 0} {told : A → List Handed → Type 0} {starts : List AbstractTable} {matches : ℕ} {before after : Recorder A} {earlier more left next : List AbstractHallEvent} {old : HallState} {queues : List (List ℕ)} (rest : List AbstractHallEvent) →
+pub part_stopped : {A : Type 0} {told : A → List Handed → Type 0} {starts : List AbstractTable} {matches : ℕ} {before after : Recorder A} {earlier more left next : List AbstractEvent} {old : HallState} {queues : List (List ℕ)} (rest : List AbstractEvent) →
     left ≡ next ++ rest →
     HasHeardPart told starts matches before earlier more left old queues →
-    ((events : List AbstractHallEvent) → HasHeard told starts matches before events old queues → HasStopped told starts matches after events next) →
+    ((events : List AbstractEvent) → HasHeard told starts matches before events old queues → HasStopped told starts matches after events next) →
     HasStopped told starts matches after earlier more
 part_stopped {told = told} {starts = starts} {matches = matches} {after = after} {earlier = earlier} rest parts so_far stops =
     let stop = stops (earlier ++ so_far.heard) so_far.is in
@@ -116,7 +117,7 @@ part_stopped {told = told} {starts = starts} {matches = matches} {after = after}
     }
 
 -- or before that
-pub rest_stopped : {A : Type 0} {told : A → List Handed → Type 0} {starts : List AbstractTable} {matches : ℕ} {recorder : Recorder A} {earlier more left : List AbstractHallEvent} {state : HallState} {queues : List (List ℕ)} →
+pub rest_stopped : {A : Type 0} {told : A → List Handed → Type 0} {starts : List AbstractTable} {matches : ℕ} {recorder : Recorder A} {earlier more left : List AbstractEvent} {state : HallState} {queues : List (List ℕ)} →
     HasHeardPart told starts matches recorder earlier more left state queues →
     HasStopped told starts matches recorder earlier more
 rest_stopped {left = left} {state = state} {queues = queues} so_far = record {
@@ -129,7 +130,7 @@ rest_stopped {left = left} {state = state} {queues = queues} so_far = record {
 }
 
 -- at last it has heard all
-pub all_heard : {A : Type 0} {told : A → List Handed → Type 0} {starts : List AbstractTable} {matches : ℕ} {recorder : Recorder A} {earlier more left : List AbstractHallEvent} {state : HallState} {queues : List (List ℕ)} →
+pub all_heard : {A : Type 0} {told : A → List Handed → Type 0} {starts : List AbstractTable} {matches : ℕ} {recorder : Recorder A} {earlier more left : List AbstractEvent} {state : HallState} {queues : List (List ℕ)} →
     left ≡ [] →
     HasHeardPart told starts matches recorder earlier more left state queues →
     HasHeard told starts matches recorder (earlier ++ more) state queues
@@ -151,7 +152,7 @@ pub past_last : (number line : ℕ) (players : List ℕ) (pasts : List Past) (in
 past_last number line players pasts index few = ap (λ them. past_from number line (drop index players) (pasts_in them)) (drop_all index pasts few)
 
 -- a run that stopped within the past
-pub stopped_past : {A C : Type 0} {told : A → List Handed → Type 0} {clock_told : C → List ℕ → Type 0} {starts : List AbstractTable} {matches : ℕ} {recorder : Recorder A} {past : List AbstractHallEvent} → HasStopped told starts matches recorder [] past → StoppedSo told clock_told starts matches past recorder
+pub stopped_past : {A C : Type 0} {told : A → List Handed → Type 0} {clock_told : C → List ℕ → Type 0} {starts : List AbstractTable} {matches : ℕ} {recorder : Recorder A} {past : List AbstractEvent} → HasStopped told starts matches recorder [] past → StoppedSo told clock_told starts matches past recorder
 stopped_past stop = record {
   events = stop.heard;
   hears = part stop.heard stop.left stop.parts;
@@ -166,13 +167,13 @@ next_config usual pasts index past within is none =
     ∙ ap (λ (script : Option Script). config_from usual (option_map script_of script ∷ pasts_in (drop (index + 1) pasts))) none
 
 -- one more player asks
-pub asked_more : (line at : ℕ) (asked : List ℕ) (players : ℕ) (before : List AbstractHallEvent) → (before ++ sent_by_each line at asked players) ++ sends (line + players) at asked ∷ [] ≡ before ++ sent_by_each line at asked (players + 1)
+pub asked_more : (line at : ℕ) (asked : List ℕ) (players : ℕ) (before : List AbstractEvent) → (before ++ sent_by_each line at asked players) ++ piece (line + players) at asked ∷ [] ≡ before ++ sent_by_each line at asked (players + 1)
 asked_more line at asked players before =
-    append_assoc before (sent_by_each line at asked players) (sends (line + players) at asked ∷ [])
+    append_assoc before (sent_by_each line at asked players) (piece (line + players) at asked ∷ [])
     ∙ ap (λ n. before ++ sent_by_each line at asked n) (sym (add-one players))
 
 -- one more event is heard
-pub heard_more : (events before : List HallEvent) (added : HallEvent) (script : List ScriptEvent) (index : ℕ) (event : ScriptEvent) (heard : ScriptEvent → AbstractHallEvent) →
+pub heard_more : (events before : List (Event (Bor (List ℕ)))) (added : Event (Bor (List ℕ))) (script : List (Event (Vec ℕ))) (index : ℕ) (event : Event (Vec ℕ)) (heard : Event (Vec ℕ) → AbstractEvent) →
     index < length script →
     event ≡ get_or script index event →
     event_of added ≡ heard event →
@@ -199,7 +200,7 @@ one_more_log known pasts past number are is one =
     (subst (λ n. IsLogOf (known n) (past_in_code past)) (is ∙ ap (λ n. n + 1) (sym (length-map pasts past_in_code))) one))
 
 -- nothing more is to be heard
-pub nothing_heard : {A : Type 0} {told : A → List Handed → Type 0} {starts : List AbstractTable} {matches : ℕ} {recorder : Recorder A} {earlier : List AbstractHallEvent} {state : HallState} {queues : List (List ℕ)} (more : List AbstractHallEvent) →
+pub nothing_heard : {A : Type 0} {told : A → List Handed → Type 0} {starts : List AbstractTable} {matches : ℕ} {recorder : Recorder A} {earlier : List AbstractEvent} {state : HallState} {queues : List (List ℕ)} (more : List AbstractEvent) →
     more ≡ [] →
     HasHeard told starts matches recorder earlier state queues →
     HasHeard told starts matches recorder (earlier ++ more) state queues
@@ -215,17 +216,17 @@ pub past_some : (number line players : ℕ) (past : Past) (script : Script) → 
 past_some number line players past script is = sym (ap (λ (one : Option Script). past_of number line players (option_map script_of one)) is)
 
 -- the events of a script
-pub script_added : (none first second : List HallEvent) (sent : List AbstractHallEvent) (slice items : List ScriptEvent) (heard : ScriptedEvent → AbstractHallEvent) →
+pub script_added : (none first second : List (Event (Bor (List ℕ)))) (sent : List AbstractEvent) (slice items : List (Event (Vec ℕ))) (heard : AbstractEvent → AbstractEvent) →
     none ≡ [] →
     map event_of first ≡ map event_of none ++ sent →
-    map event_of second ≡ map event_of first ++ map (λ event. heard (scripted_event event)) slice →
+    map event_of second ≡ map event_of first ++ map (λ event. heard (owned_event_of event)) slice →
     slice ≡ items →
-    map event_of second ≡ sent ++ map heard (map scripted_event items)
+    map event_of second ≡ sent ++ map heard (map owned_event_of items)
 script_added none first second sent slice items heard is_none asked added same =
     added
-    ∙ ap (λ events. events ++ map (λ event. heard (scripted_event event)) slice) (asked ∙ ap (λ events. map event_of events ++ sent) is_none)
-    ∙ ap (λ events. sent ++ map (λ event. heard (scripted_event event)) events) same
-    ∙ ap (λ events. sent ++ events) (sym (map-map heard scripted_event items))
+    ∙ ap (λ events. events ++ map (λ event. heard (owned_event_of event)) slice) (asked ∙ ap (λ events. map event_of events ++ sent) is_none)
+    ∙ ap (λ events. sent ++ map (λ event. heard (owned_event_of event)) events) same
+    ∙ ap (λ events. sent ++ events) (sym (map-map heard owned_event_of items))
 
 -- the config of the first match that has begun
 pub found_config : (usual : Config) (pasts : List Past) (index : ℕ) (past : Past) (script : Script) → index < length pasts → past ≡ get_or pasts index past → past.script ≡ Some script → config_from usual (pasts_in (drop index pasts)) ≡ config_for script.config

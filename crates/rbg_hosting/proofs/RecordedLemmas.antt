@@ -1,7 +1,7 @@
 -- A hall that was served, and whose records were handed to an archive.
 use Rattle.rbg_base.proofs.Common.{◌≡◌, ◌⊎◌, inl, inr, ℕ, zero, suc, ◌+◌, ◌<◌, Bool, true, false, List, [], ◌∷◌, ◌++◌, Result, Ok, Err, OnOk, OnErr, map, replicate, slice_get, slice_index_or, sym, ap, ◌∙◌, refl, subst, map-append, append-nil, append_assoc, get_or-replicate}
-use Rattle.rbg_match.specs.Inputs.{AbstractEvent}
-use Rattle.rbg_hall.proofs.Common.{AbstractHallEvent, AbstractTable, HallHears, HallState, HasRun, HeldHall, IsNewHall, begun_of, hall_event, new_hall}
+use Rattle.rbg_script.specs.Events.{AbstractEvent}
+use Rattle.rbg_hall.proofs.Common.{AbstractTable, HallHears, HallState, HasRun, HeldHall, IsNewHall, begun_of, hall_event, new_hall}
 use Rattle.rbg_hall.proofs.Wholes.{run_on}
 use Rattle.rbg_hall.proofs.TableCommon.{lines_in_all}
 use Rattle.rbg_hall.proofs.Telling.{told_to-none}
@@ -26,7 +26,7 @@ use Rattle.rbg_hosting.specs.declared.recorder.Recorder.{Recorder}
 use Rattle.rbg_hosting.specs.internal.Recorded.{AreNoted, HandsOver, HasArchived, HasArchivedAfter, HasHeard, HasSince, IsFresh, IsOfDevice, IsStopped, of_recorded, places}
 
 -- the events of what is heard after others, and of one more
-events_more : (since : ℕ) (earlier : List AbstractHallEvent) (heard : List Heard) (one : Heard) → (earlier ++ events_since since heard) ++ hall_event (later_event since (event_of one)) ∷ [] ≡ earlier ++ events_since since (heard ++ one ∷ [])
+events_more : (since : ℕ) (earlier : List AbstractEvent) (heard : List Heard) (one : Heard) → (earlier ++ events_since since heard) ++ hall_event (later_event since (event_of one)) ∷ [] ≡ earlier ++ events_since since (heard ++ one ∷ [])
 events_more since earlier heard one =
     append_assoc earlier (events_since since heard) (hall_event (later_event since (event_of one)) ∷ [])
     ∙ ap (λ events. earlier ++ events) (sym (map-append (λ (next : Heard). hall_event (later_event since (event_of next))) heard (one ∷ [])))
@@ -39,7 +39,7 @@ since_stays passing.nothing = refl
 since_stays (passing.more handles now one may step) = step.2 ∙ since_stays handles
 
 -- a run that goes on while this is heard has run through it
-run_through : {W A : Type 0} {told : A → List Handed → Type 0} {starts : List AbstractTable} {lines : ℕ} {old : RecordedHall W A} {before : List (List ℕ)} {heard : List Heard} {new : RecordedHall W A} {queued : List (List ℕ)} {since : List Intake} (earlier : List AbstractHallEvent) →
+run_through : {W A : Type 0} {told : A → List Handed → Type 0} {starts : List AbstractTable} {lines : ℕ} {old : RecordedHall W A} {before : List (List ℕ)} {heard : List Heard} {new : RecordedHall W A} {queued : List (List ℕ)} {since : List Intake} (earlier : List AbstractEvent) →
     HasRun starts earlier old.hall.state before →
     Handles (of_recorded told) lines old before heard new queued since →
     HasRun starts (earlier ++ events_since old.since heard) new.hall.state queued
@@ -51,7 +51,7 @@ run_through {starts = starts} {old = old} {new = new} {queued = queued} earlier 
     (run_on (run_through earlier run handles) step.0))
 
 -- a hall that was served to its end
-pub ended_so : {W A : Type 0} {told : A → List Handed → Type 0} {starts : List AbstractTable} {past : List AbstractHallEvent} {rounds : ℕ} {before after : List Told} {moments : List ℕ} {old new : RecordedHall W A} {queued_before queued : List (List ℕ)} {served : Served} → HasRun starts past old.hall.state queued_before → Serves (of_recorded told) rounds before after moments old new queued_before queued (Ok served) → HasEnded starts new.hall.state
+pub ended_so : {W A : Type 0} {told : A → List Handed → Type 0} {starts : List AbstractTable} {past : List AbstractEvent} {rounds : ℕ} {before after : List Told} {moments : List ℕ} {old new : RecordedHall W A} {queued_before queued : List (List ℕ)} {served : Served} → HasRun starts past old.hall.state queued_before → Serves (of_recorded told) rounds before after moments old new queued_before queued (Ok served) → HasEnded starts new.hall.state
 ended_so {past = past} {old = old} {queued = queued} run serves = record {
   events = past ++ events_since old.since serves.heard;
   queues = queued;
@@ -79,7 +79,7 @@ heard_first {starts = starts} {hall = hall} {queues = queues} recorder made fres
 }
 
 -- it hears one more event
-pub heard_next : {A : Type 0} {told : A → List Handed → Type 0} {starts : List AbstractTable} {matches : ℕ} {before after : Recorder A} {events : List AbstractHallEvent} {event : AbstractHallEvent} {old new : HallState} {queues queued : List (List ℕ)} →
+pub heard_next : {A : Type 0} {told : A → List Handed → Type 0} {starts : List AbstractTable} {matches : ℕ} {before after : Recorder A} {events : List AbstractEvent} {event : AbstractEvent} {old new : HallState} {queues queued : List (List ℕ)} →
     HasHeard told starts matches before events old queues →
     HallHears old event new queues queued →
     HandsOver told before after old.tables new.tables →
@@ -95,7 +95,7 @@ heard_next {old = old} {new = new} so_far heard hands =
     }
 
 -- it hears all that is heard in a call
-heard_through : {W A : Type 0} {told : A → List Handed → Type 0} {starts : List AbstractTable} {matches lines : ℕ} {old : RecordedHall W A} {before : List (List ℕ)} {heard : List Heard} {new : RecordedHall W A} {queued : List (List ℕ)} {since : List Intake} (earlier : List AbstractHallEvent) →
+heard_through : {W A : Type 0} {told : A → List Handed → Type 0} {starts : List AbstractTable} {matches lines : ℕ} {old : RecordedHall W A} {before : List (List ℕ)} {heard : List Heard} {new : RecordedHall W A} {queued : List (List ℕ)} {since : List Intake} (earlier : List AbstractEvent) →
     HasHeard told starts matches old.recorder earlier old.hall.state before →
     Handles (of_recorded told) lines old before heard new queued since →
     HasHeard told starts matches new.recorder (earlier ++ events_since old.since heard) new.hall.state queued
@@ -107,7 +107,7 @@ heard_through {told = told} {starts = starts} {matches = matches} {old = old} {n
     (heard_next (heard_through earlier so_far handles) step.0 step.1))
 
 -- it has heard the same if only the moment is another from which its matches go on
-pub heard_again : {W A : Type 0} {told : A → List Handed → Type 0} {starts : List AbstractTable} {matches : ℕ} {events : List AbstractHallEvent} {queues : List (List ℕ)} (old new : RecordedHall W A) →
+pub heard_again : {W A : Type 0} {told : A → List Handed → Type 0} {starts : List AbstractTable} {matches : ℕ} {events : List AbstractEvent} {queues : List (List ℕ)} (old new : RecordedHall W A) →
     new.hall ≡ old.hall →
     new.recorder ≡ old.recorder →
     HasHeard told starts matches old.recorder events old.hall.state queues →
@@ -117,16 +117,16 @@ heard_again {told = told} {starts = starts} {matches = matches} {events = events
     (subst (λ (one : HeldHall _). HasHeard told starts matches old.recorder events one.state queues) (sym same_hall) so_far)
 
 -- the run of what was heard
-pub has_run : {starts : List AbstractTable} {matches : ℕ} {events : List AbstractHallEvent} {state : HallState} {queues : List (List ℕ)} {handed : List Handed} → IsArchivedRun starts matches events state queues handed → HasRun starts events state queues
+pub has_run : {starts : List AbstractTable} {matches : ℕ} {events : List AbstractEvent} {state : HallState} {queues : List (List ℕ)} {handed : List Handed} → IsArchivedRun starts matches events state queues handed → HasRun starts events state queues
 has_run begins = record { told = []; run = halls.none; queued = sym (told_to-none (replicate lines_in_all [])) }
 has_run (hears run heard are) = run_on (has_run run) heard
 
 -- what was handed over of it
-pub has_archived : {A : Type 0} {told : A → List Handed → Type 0} {starts : List AbstractTable} {matches : ℕ} {recorder : Recorder A} {events : List AbstractHallEvent} {state : HallState} {queues : List (List ℕ)} → HasHeard told starts matches recorder events state queues → HasArchived told starts matches events recorder state
+pub has_archived : {A : Type 0} {told : A → List Handed → Type 0} {starts : List AbstractTable} {matches : ℕ} {recorder : Recorder A} {events : List AbstractEvent} {state : HallState} {queues : List (List ℕ)} → HasHeard told starts matches recorder events state queues → HasArchived told starts matches events recorder state
 has_archived {queues = queues} so_far = record { handed = so_far.handed; has = so_far.has; queues = queues; run = so_far.run }
 
 -- what a hall hears that goes on, of which the first is handled
-goes_on_so : {W A C : Type 0} {told : C → List ℕ → Type 0} {starts : List AbstractTable} {past : List AbstractHallEvent} {queues : List (List ℕ)} {readings : List ℕ} (clock : C) (old : RecordedHall W A) (handled left : List Heard) →
+goes_on_so : {W A C : Type 0} {told : C → List ℕ → Type 0} {starts : List AbstractTable} {past : List AbstractEvent} {queues : List (List ℕ)} {readings : List ℕ} (clock : C) (old : RecordedHall W A) (handled left : List Heard) →
     HasSince old starts →
     HasRun starts past old.hall.state queues →
     told clock readings →
@@ -142,7 +142,7 @@ goes_on_so {queues = queues} {readings = readings} clock old handled left from r
 }
 
 -- what a recorder has done for a hall that was served to its end
-pub archived_so : {W A C : Type 0} {told : A → List Handed → Type 0} {clock_told : C → List ℕ → Type 0} {starts : List AbstractTable} {matches : ℕ} {past : List AbstractHallEvent} {rounds : ℕ} {before after : List Told} {moments : List ℕ} {old new : RecordedHall W A} {queued_before queued : List (List ℕ)} {served : Served} (clock : C) →
+pub archived_so : {W A C : Type 0} {told : A → List Handed → Type 0} {clock_told : C → List ℕ → Type 0} {starts : List AbstractTable} {matches : ℕ} {past : List AbstractEvent} {rounds : ℕ} {before after : List Told} {moments : List ℕ} {old new : RecordedHall W A} {queued_before queued : List (List ℕ)} {served : Served} (clock : C) →
     HasSince old starts →
     HasHeard told starts matches old.recorder past old.hall.state queued_before →
     clock_told clock moments →
@@ -155,18 +155,18 @@ archived_so {past = past} {moments = moments} {old = old} clock from so_far tell
 }
 
 -- how a hall stops that had this past, apart from why
-pub record StoppedSo {A C : Type 0} (told : A → List Handed → Type 0) (clock_told : C → List ℕ → Type 0) (starts : List AbstractTable) (matches : ℕ) (past : List AbstractHallEvent) (recorder : Recorder A) : Type 0 where
-  pub events : List AbstractHallEvent
+pub record StoppedSo {A C : Type 0} (told : A → List Handed → Type 0) (clock_told : C → List ℕ → Type 0) (starts : List AbstractTable) (matches : ℕ) (past : List AbstractEvent) (recorder : Recorder A) : Type 0 where
+  pub events : List AbstractEvent
   pub hears : HearsPast clock_told starts past events
   pub state : HallState
   pub archived : HasArchived told starts matches events recorder state
 
 -- it stops, and this is why
-pub is_stopped : {A C : Type 0} {told : A → List Handed → Type 0} {clock_told : C → List ℕ → Type 0} {starts : List AbstractTable} {matches : ℕ} {past : List AbstractHallEvent} {recorder : Recorder A} (fault : ServingFault) → StoppedSo told clock_told starts matches past recorder → (recorder.lost ≡ true → IsOfDevice fault) → IsStopped told clock_told starts matches past recorder fault
+pub is_stopped : {A C : Type 0} {told : A → List Handed → Type 0} {clock_told : C → List ℕ → Type 0} {starts : List AbstractTable} {matches : ℕ} {past : List AbstractEvent} {recorder : Recorder A} (fault : ServingFault) → StoppedSo told clock_told starts matches past recorder → (recorder.lost ≡ true → IsOfDevice fault) → IsStopped told clock_told starts matches past recorder fault
 is_stopped fault so device = record { events = so.events; hears = so.hears; state = so.state; archived = so.archived; device = device }
 
 -- after all of its past, and nothing more
-pub unheard_so : {A C : Type 0} {told : A → List Handed → Type 0} {clock_told : C → List ℕ → Type 0} {starts : List AbstractTable} {matches : ℕ} {past : List AbstractHallEvent} {recorder : Recorder A} {state : HallState} {queues : List (List ℕ)} → HasHeard told starts matches recorder past state queues → StoppedSo told clock_told starts matches past recorder
+pub unheard_so : {A C : Type 0} {told : A → List Handed → Type 0} {clock_told : C → List ℕ → Type 0} {starts : List AbstractTable} {matches : ℕ} {past : List AbstractEvent} {recorder : Recorder A} {state : HallState} {queues : List (List ℕ)} → HasHeard told starts matches recorder past state queues → StoppedSo told clock_told starts matches past recorder
 unheard_so {past = past} {state = state} so_far = record {
   events = past;
   hears = part past [] (sym (append-nil past));
@@ -175,7 +175,7 @@ unheard_so {past = past} {state = state} so_far = record {
 }
 
 -- after what was heard in a call
-heard_so : {A C : Type 0} {told : A → List Handed → Type 0} {clock_told : C → List ℕ → Type 0} {starts : List AbstractTable} {matches : ℕ} {past later : List AbstractHallEvent} {recorder : Recorder A} {state : HallState} {queues : List (List ℕ)} →
+heard_so : {A C : Type 0} {told : A → List Handed → Type 0} {clock_told : C → List ℕ → Type 0} {starts : List AbstractTable} {matches : ℕ} {past later : List AbstractEvent} {recorder : Recorder A} {state : HallState} {queues : List (List ℕ)} →
     GoesOnAfter clock_told starts past later →
     HasHeard told starts matches recorder (past ++ later) state queues →
     StoppedSo told clock_told starts matches past recorder
@@ -187,7 +187,7 @@ heard_so {past = past} {later = later} {state = state} goes_on so_far = record {
 }
 
 -- in a call that is served no more
-pub archived_until : {W A C : Type 0} {told : A → List Handed → Type 0} {clock_told : C → List ℕ → Type 0} {starts : List AbstractTable} {matches : ℕ} {past : List AbstractHallEvent} {rounds : ℕ} {before after : List Told} {moments : List ℕ} {old new : RecordedHall W A} {queued_before queued : List (List ℕ)} (clock : C) (error : ServeError) →
+pub archived_until : {W A C : Type 0} {told : A → List Handed → Type 0} {clock_told : C → List ℕ → Type 0} {starts : List AbstractTable} {matches : ℕ} {past : List AbstractEvent} {rounds : ℕ} {before after : List Told} {moments : List ℕ} {old new : RecordedHall W A} {queued_before queued : List (List ℕ)} (clock : C) (error : ServeError) →
     HasSince old starts →
     HasHeard told starts matches old.recorder past old.hall.state queued_before →
     clock_told clock moments →

@@ -2,8 +2,8 @@
 use Rattle.rbg_base.proofs.Common.{◌≡◌, ℕ, zero, suc, ◌+◌, List, [], ◌∷◌, ◌++◌, Bool, true, false, Option, Some, None, is_some, slice_get, ap, sym, ◌∙◌, refl, subst, false≢true, same_Some}
 use Rattle.rbg_wire.specs.declared.outcome.Outcome.{Outcome}
 use Rattle.rbg_match.specs.Matches.{MatchState}
-use Rattle.rbg_match.specs.Inputs.{AbstractEvent}
-use Rattle.rbg_hall.proofs.Common.{AbstractHallEvent, EachHears, HallHears, HallState, HearsEach, begun_of}
+use Rattle.rbg_script.specs.Events.{AbstractEvent}
+use Rattle.rbg_hall.proofs.Common.{EachHears, HallHears, HallState, HearsEach, begun_of}
 use Rattle.rbg_hall.specs.Halls as halls
 use Rattle.rbg_hall.specs.Serving.{has_ended}
 use Rattle.rbg_hall.specs.Tables.{Hears, OwnEvent, Plays, TableState}
@@ -58,7 +58,7 @@ each_stands (halls.more hears next) zero = all_stand hears
 each_stands (halls.more hears next) (suc index) = each_stands next index
 
 -- the matches of a hall after an event
-pub hall_stands : {old new : HallState} {event : AbstractHallEvent} {before after : List (List ℕ)} → HallHears old event new before after → StandAfter old.tables new.tables
+pub hall_stands : {old new : HallState} {event : AbstractEvent} {before after : List (List ℕ)} → HallHears old event new before after → StandAfter old.tables new.tables
 hall_stands hears index = each_stands hears.steps.tables index
 
 -- one that had ended is as it was

@@ -1,6 +1,6 @@
 -- What a hall hands to an archive: the record of each match, once it has ended.
 use Rattle.std.specs.Prelude.{◌≡◌, ℕ, suc, Bool, true, false, List, [], ◌∷◌, ◌++◌, Option, Some, is_some, replicate}
-use Rattle.rbg_hall.specs.Events.{AbstractHallEvent}
+use Rattle.rbg_script.specs.Events.{AbstractEvent}
 use Rattle.rbg_hall.specs.Halls.{AbstractTable, HallState, begun_at, new_hall}
 use Rattle.rbg_hall.specs.Hearing.{HallHears}
 use Rattle.rbg_hall.specs.Serving.{has_ended}
@@ -44,9 +44,9 @@ pub data AreHandedOver (old new : List TableState) : (matches : ℕ) → List Ha
 -- A hall with these tables heard these events in turn, stands so, and these bytes are queued for its lines. Meanwhile this
 -- was handed of its first matches: the record of each at the first event after which it had ended.
 pub data IsArchivedRun (starts : List AbstractTable) (matches : ℕ) :
-    List AbstractHallEvent → HallState → (queues : List (List ℕ)) → List Handed → Type 0 where
+    List AbstractEvent → HallState → (queues : List (List ℕ)) → List Handed → Type 0 where
   begins : IsArchivedRun starts matches [] (new_hall starts) (replicate lines_in_all []) []
-  hears : {events : List AbstractHallEvent} {event : AbstractHallEvent} {old new : HallState}
+  hears : {events : List AbstractEvent} {event : AbstractEvent} {old new : HallState}
       {before after : List (List ℕ)} {handed more : List Handed}
       → IsArchivedRun starts matches events old before handed
       → HallHears old event new before after

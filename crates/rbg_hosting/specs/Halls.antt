@@ -1,5 +1,5 @@
 -- What is printed of a hall that hears a script, and why nothing is.
-use Rattle.std.specs.Prelude.{◌≤◌, ℕ, List, All, length, map}
+use Rattle.std.specs.Prelude.{◌≤◌, ℕ, List, All, length}
 use Rattle.rbg_hall.specs.Halls.{AbstractTable}
 use Rattle.rbg_hall.specs.Limits.{most_tables}
 use Rattle.rbg_hall.specs.Wholes.{IsOfHall}
@@ -10,7 +10,6 @@ use Rattle.rbg_script.specs.Scripts.{AbstractScript, SpellsScript, HasMisfit}
 use Rattle.rbg_hosting.specs.declared.error.HostingError.{HostingError}
 use Rattle.rbg_hosting.specs.declared.error.HostingError.TheVariants.{Tables, Input}
 use Rattle.rbg_hosting.specs.Printed.{IsPrintedHall}
-use Rattle.rbg_hosting.specs.Scripts.{event_for}
 use Rattle.rbg_hosting.specs.Tables.{AreTablesOf, IsGames, HasRefused}
 
 -- there is a description, and a hall has a table for each
@@ -21,7 +20,7 @@ MayBeDescriptions descriptions = (1 ≤ length descriptions) × (length descript
 pub record IsHeardHall (descriptions : List (List ℕ)) (script : AbstractScript) (queues : List (List ℕ)) : Type 0 where
   pub tables : List AbstractTable
   pub are : AreTablesOf (config_for script.config) descriptions tables
-  pub heard : IsOfHall tables (map event_for script.events) queues
+  pub heard : IsOfHall tables script.events queues
 
 -- the printed lines of such a hall
 pub record IsPrintedScript (descriptions : List (List ℕ)) (script : AbstractScript) (printed : List ℕ) : Type 0 where

@@ -1,6 +1,6 @@
 -- Laws of what a hall hands to an archive.
 use Rattle.std.specs.Prelude.{◌≡◌, ◌==◌, ◌≤◌, ◌<◌, ◌⊎◌, ℕ, suc, Bool, true, false, List, ◌++◌, Contains, count_by}
-use Rattle.rbg_hall.specs.Events.{AbstractHallEvent}
+use Rattle.rbg_script.specs.Events.{AbstractEvent}
 use Rattle.rbg_hall.specs.Halls.{AbstractTable, HallState, begun_at}
 use Rattle.rbg_hall.specs.Serving.{has_ended}
 use Rattle.rbg_network.specs.Archives.{Handed, kept, lost}
@@ -20,7 +20,7 @@ times false = 0
 -- The record of each match that has ended was handed over once, under its number, and no other one.
 abbrev pub EachIsHandedOnce : Type 0
 EachIsHandedOnce =
-    (starts : List AbstractTable) (matches : ℕ) (events : List AbstractHallEvent) (state : HallState)
+    (starts : List AbstractTable) (matches : ℕ) (events : List AbstractEvent) (state : HallState)
     (queues : List (List ℕ)) (handed : List Handed) (index : ℕ)
     → IsArchivedRun starts matches events state queues handed
     → index < matches
@@ -29,7 +29,7 @@ EachIsHandedOnce =
 -- What is kept of a match is what is printed of it at any later time, after its line.
 abbrev pub KeptRecordsArePrinted : Type 0
 KeptRecordsArePrinted =
-    (starts : List AbstractTable) (matches : ℕ) (events : List AbstractHallEvent) (state : HallState)
+    (starts : List AbstractTable) (matches : ℕ) (events : List AbstractEvent) (state : HallState)
     (queues : List (List ℕ)) (handed : List Handed) (number : ℕ) (bytes : List ℕ)
     → IsArchivedRun starts matches events state queues handed
     → Contains handed (kept number bytes)

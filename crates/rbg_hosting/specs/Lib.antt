@@ -10,7 +10,6 @@ pub mod Moments
 pub mod Pasts
 pub mod Printed
 pub mod Records
-pub mod Scripts
 pub mod Served
 pub mod Tables
 pub mod internal

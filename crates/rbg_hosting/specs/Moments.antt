@@ -1,11 +1,10 @@
 -- From which moment the matches of a hall go on, and by which clock.
 use Rattle.std.specs.Prelude.{◌≡◌, ◌≤◌, ℕ, List, ◌++◌, Some, None, length, map}
-use Rattle.rbg_hall.specs.Events.{AbstractHallEvent}
+use Rattle.rbg_script.specs.Events.{AbstractEvent, piece, end_of_stream, moment_alone}
 use Rattle.rbg_hall.specs.Halls.{AbstractTable, HallState, begun_at}
 use Rattle.rbg_hall.specs.Serving.{hall_event}
 use Rattle.rbg_hall.specs.Tables.{TableState}
 use Rattle.rbg_hall.specs.Wholes.{HasRun}
-use Rattle.rbg_match.specs.Inputs.{AbstractEvent, piece, end_of_stream, moment_alone}
 use Rattle.rbg_match.specs.Matches.{MatchState}
 use Rattle.rbg_serving.specs.Clocks.{later_by}
 use Rattle.rbg_serving.specs.Heard.{Heard, IsTimed, event_of}
@@ -36,11 +35,11 @@ later_event since (end_of_stream seat at) = end_of_stream seat (later_by since a
 later_event since (moment_alone at) = moment_alone (later_by since at)
 
 -- what a hall hears that goes on from a moment, where a call hears this
-abbrev pub events_since : (since : ℕ) → List Heard → List AbstractHallEvent
+abbrev pub events_since : (since : ℕ) → List Heard → List AbstractEvent
 events_since since heard = map (λ one. hall_event (later_event since (event_of one))) heard
 
 -- These events are what was heard first at the readings of a clock, each later by so much.
-pub record AreHeardSince {C : Type 0} (told : C → List ℕ → Type 0) (since : ℕ) (events : List AbstractHallEvent) : Type 0 where
+pub record AreHeardSince {C : Type 0} (told : C → List ℕ → Type 0) (since : ℕ) (events : List AbstractEvent) : Type 0 where
   pub clock : C
   pub readings : List ℕ
   pub tells : told clock readings
@@ -52,7 +51,7 @@ pub record AreHeardSince {C : Type 0} (told : C → List ℕ → Type 0) (since 
 -- A hall with these tables goes on after a past: it heard these events later, from the moment on from which its matches go on
 -- as the past left them.
 pub record GoesOnAfter {C : Type 0} (told : C → List ℕ → Type 0) (tables : List AbstractTable)
-    (past later : List AbstractHallEvent) : Type 0 where
+    (past later : List AbstractEvent) : Type 0 where
   pub stood : HallState
   pub queues : List (List ℕ)
   pub run : HasRun tables past stood queues
@@ -63,11 +62,11 @@ pub record GoesOnAfter {C : Type 0} (told : C → List ℕ → Type 0) (tables :
 -- What a hall with these tables hears that hears a past first.
 --   all: all of it, and then others, by a clock.
 --   part: a front part of it, and it is served no more.
-pub data HearsPast {C : Type 0} (told : C → List ℕ → Type 0) (tables : List AbstractTable) (past : List AbstractHallEvent) :
-    (events : List AbstractHallEvent) → Type 0 where
-  all : (later : List AbstractHallEvent)
+pub data HearsPast {C : Type 0} (told : C → List ℕ → Type 0) (tables : List AbstractTable) (past : List AbstractEvent) :
+    (events : List AbstractEvent) → Type 0 where
+  all : (later : List AbstractEvent)
       → GoesOnAfter told tables past later
       → HearsPast told tables past (past ++ later)
-  part : (heard left : List AbstractHallEvent)
+  part : (heard left : List AbstractEvent)
       → past ≡ heard ++ left
       → HearsPast told tables past heard

@@ -1,6 +1,6 @@
 -- What `hall` prints: the record of each match that has begun.
 use Rattle.std.specs.Prelude.{ℕ, ◌+◌, List, [], ◌∷◌, ◌++◌, Option, Some, None, length, codes, decimal}
-use Rattle.rbg_hall.specs.Events.{AbstractHallEvent}
+use Rattle.rbg_script.specs.Events.{AbstractEvent}
 use Rattle.rbg_hall.specs.Halls.{AbstractTable, HallState}
 use Rattle.rbg_hall.specs.Serving.{HaveAllEnded}
 use Rattle.rbg_hall.specs.Wholes.{HasRun}
@@ -42,7 +42,7 @@ pub data ArePrintedMatches : List AbstractTable → List TableState → (printed
 
 -- A hall with these tables heard some events, stands so, and every match has begun and ended.
 pub record HasEnded (starts : List AbstractTable) (state : HallState) : Type 0 where
-  pub events : List AbstractHallEvent
+  pub events : List AbstractEvent
   pub queues : List (List ℕ)
   pub run : HasRun starts events state queues
   pub over : HaveAllEnded state.tables

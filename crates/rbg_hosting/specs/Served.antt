@@ -2,7 +2,7 @@
 use Rattle.std.specs.Prelude.{◌≡◌, ◌⊎◌, ℕ, Bool, true, false, List, [], ◌++◌, All, Option, Result, Ok, Err, length}
 use Rattle.rbg_console.specs.declared.status.Status.{Status}
 use Rattle.rbg_console.specs.declared.status.Status.TheVariants.{Success, Device}
-use Rattle.rbg_hall.specs.Events.{AbstractHallEvent}
+use Rattle.rbg_script.specs.Events.{AbstractEvent}
 use Rattle.rbg_hall.specs.Halls.{AbstractTable, HallState}
 use Rattle.rbg_hall.specs.Serving.{HaveAllEnded}
 use Rattle.rbg_match.specs.declared.config.Config.{Config}
@@ -20,7 +20,7 @@ use Rattle.rbg_hosting.specs.declared.fault.ServingFault.TheVariants.{Device as 
 -- A hall that has a table for each description heard these events and stands so, and this was handed to its archive: each
 -- record at the first event after which its match had ended.
 pub record IsArchivedHall (config : Config) (descriptions : List (List ℕ)) (wants : Bool) (tables : List AbstractTable)
-    (events : List AbstractHallEvent) (state : HallState) (handed : List Handed) : Type 0 where
+    (events : List AbstractEvent) (state : HallState) (handed : List Handed) : Type 0 where
   pub are : AreTablesOf config descriptions tables
   pub queues : List (List ℕ)
   pub run : IsArchivedRun tables (wanted_of wants (length tables)) events state queues handed
@@ -38,14 +38,14 @@ status_for false = Success
 --   not_begun: there is no hall, or nobody plays in it.
 pub data IsOutcome {C : Type 0} (clock : C → List ℕ → Type 0) (config : Config) (descriptions : List (List ℕ))
     (pasts : List (Option AbstractScript)) (wants : Bool) (handed : List Handed) : Result Answer ServingFault → Type 0 where
-  ended : (tables : List AbstractTable) (later : List AbstractHallEvent) (state : HallState) (answer : Answer)
+  ended : (tables : List AbstractTable) (later : List AbstractEvent) (state : HallState) (answer : Answer)
       → IsArchivedHall config descriptions wants tables (past_in tables pasts ++ later) state handed
       → GoesOnAfter clock tables (past_in tables pasts) later
       → HaveAllEnded state.tables
       → ArePrintedMatches tables state.tables answer.text.items
       → answer.status ≡ status_for (is_any_lost handed)
       → IsOutcome clock config descriptions pasts wants handed (Ok answer)
-  stopped : (tables : List AbstractTable) (events : List AbstractHallEvent) (state : HallState) (fault : ServingFault)
+  stopped : (tables : List AbstractTable) (events : List AbstractEvent) (state : HallState) (fault : ServingFault)
       → IsArchivedHall config descriptions wants tables events state handed
       → HearsPast clock tables (past_in tables pasts) events
       → (is_any_lost handed ≡ true → (fault ≡ DeviceFailed) ⊎ (fault ≡ Rounds))

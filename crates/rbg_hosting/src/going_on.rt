@@ -1,6 +1,6 @@
 //! A hall goes on from the logs of its matches.
 ghost use Rattle.std.specs.Prelude.{◌≡◌, ◌≤◌, ℕ, [], List, length, IfOk, OnOk};
-ghost use Rattle.rbg_hall.specs.Events.{AbstractHallEvent};
+ghost use Rattle.rbg_script.specs.Events.{AbstractEvent};
 ghost use Rattle.rbg_hall.specs.Halls.{AbstractTable};
 ghost use Rattle.rbg_hall.specs.Wholes.{HasRun};
 ghost use Rattle.rbg_hosting.specs.Pasts.{log_name, past_from};
@@ -129,7 +129,7 @@ pub(crate) fn go_on<N: Network, A: Archive>(
     going: Going<'_>,
 ) -> Result<(), ServingFault>
     requires { length going.pasts.now ≤ length going.players.now }
-    ensures new_ended { going.entry.pasts.now ≡ [] → OnOk result ((starts : List AbstractTable) (past : List AbstractHallEvent) →
+    ensures new_ended { going.entry.pasts.now ≡ [] → OnOk result ((starts : List AbstractTable) (past : List AbstractEvent) →
         HasRun starts past recorded.old.hall.state out.old →
         HasEnded starts recorded.new.hall.state) }
     ensures ended { OnOk result ((starts : List AbstractTable) (matches : ℕ) →

@@ -6,12 +6,11 @@ ghost use Rattle.rbg_script.specs.Scripts.{IsReason, SpellsScript, script_of as 
 
 use crate::HostingError;
 use crate::printed::hall_lines;
-use crate::script_events::events_of;
 use crate::tables::tables_of;
 use rbg_hall::{HallOut, TABLES, whole_hall};
 use rbg_match::Config;
 use rbg_referee::{RefereeingError, config_of};
-use rbg_script::{Script, ScriptError, read_script};
+use rbg_script::{Script, ScriptError, lend_events, read_script};
 use std::alloc::Global;
 
 /// Hears a script in a hall with a table for each description. Returns the lines that are printed of it: for each of the
@@ -90,7 +89,7 @@ fn queues_of(
         IsNoHall (texts_of descriptions.now) text fault) }
 {
     let tables = tables_of(alloc, descriptions, config_of(script.config))?;
-    let events = match events_of(alloc, script.events.as_slice()) {
+    let events = match lend_events(alloc, script.events.as_slice()) {
         Ok(events) => events,
         Err(_) => return Err(HostingError::Input(RefereeingError::Memory)),
     };

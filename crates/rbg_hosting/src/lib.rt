@@ -28,7 +28,6 @@ mod replay;
 mod resuming;
 mod run;
 mod script;
-mod script_events;
 mod seats;
 mod serving;
 mod tables;

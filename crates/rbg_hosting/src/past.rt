@@ -10,7 +10,7 @@ use rbg_console::{Files, Input};
 use rbg_match::Config;
 use rbg_network::{Network, take_log};
 use rbg_referee::config_of;
-use rbg_script::{Script, ScriptEvent, read_script};
+use rbg_script::{Event, Script, read_script};
 use rbg_serving::whole_lines;
 use std::alloc::{AllocError, Global};
 
@@ -93,7 +93,7 @@ fn script_in(alloc: Global, bytes: &[u8]) -> Result<Option<Script>, ServingFault
 }
 
 /// Whether each message is whole, as in each log of a hall. If not, its line is not of its form.
-fn are_whole(events: &[ScriptEvent]) -> Result<(), ServingFault> {
+fn are_whole(events: &[Event<Vec<u8>>]) -> Result<(), ServingFault> {
     for (index, event) in events.iter().enumerate() {
         if !is_whole(event) {
             return Err(ServingFault::Script(index.saturating_add(2)));
@@ -103,11 +103,11 @@ fn are_whole(events: &[ScriptEvent]) -> Result<(), ServingFault> {
 }
 
 /// Whether an event leaves no message that isn't whole.
-fn is_whole(event: &ScriptEvent) -> bool {
+fn is_whole(event: &Event<Vec<u8>>) -> bool {
     match event {
-        ScriptEvent::Piece { bytes, .. } => bytes.is_empty() || bytes.as_slice().ends_with(b"\0"),
-        ScriptEvent::Ended { .. } => true,
-        ScriptEvent::Tick { .. } => true,
+        Event::Piece { bytes, .. } => bytes.is_empty() || bytes.as_slice().ends_with(b"\0"),
+        Event::Ended { .. } => true,
+        Event::Tick { .. } => true,
     }
 }
 

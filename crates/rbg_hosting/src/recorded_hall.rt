@@ -1,8 +1,7 @@
 //! A hall that hands the record of each match to an archive when the match ends, and whose time may be bounded.
 ghost use Rattle.std.specs.Prelude.{◌≡◌, ◌⊎◌, true, OnErr, OnOk};
-ghost use Rattle.rbg_hall.specs.Events.{event_of};
+ghost use Rattle.rbg_script.specs.Events.{event_of};
 ghost use Rattle.rbg_hall.specs.Hearing.{HallHears};
-ghost use Rattle.rbg_match.specs.Inputs.{event_of as match_event};
 ghost use Rattle.rbg_hosting.specs.Moments.{later_event};
 ghost use Rattle.rbg_hosting.specs.declared.fault.ServingFault.{ServingFault};
 ghost use Rattle.rbg_hosting.specs.internal.Recorded.{HandsOver};
@@ -10,9 +9,9 @@ ghost use Rattle.rbg_hosting.specs.internal.Recorded.{HandsOver};
 use crate::ServingFault;
 use crate::recorder::Recorder;
 use rbg_base::Memory;
-use rbg_hall::{Hall, HallEvent, HallOut};
-use rbg_match::Event;
+use rbg_hall::{Hall, HallOut};
 use rbg_network::Archive;
+use rbg_script::Event;
 use rbg_serving::{Engine, Log, ServeError};
 use std::alloc::{AllocError, Global};
 
@@ -72,7 +71,7 @@ impl<W: Log, A: Archive> RecordedHall<W, A> {
     }
 
     /// Hears an event of the past, at whatever moment, and hands over what is to be handed over then.
-    pub(crate) fn hear(&mut self, event: &HallEvent<'_>, out: &mut HallOut) -> Result<(), Memory>
+    pub(crate) fn hear(&mut self, event: &Event<&[u8]>, out: &mut HallOut) -> Result<(), Memory>
         ensures hears { OnOk result (HallHears self.old.hall.state (event_of event.now) self.new.hall.state out.old out.new
             × HandsOver A.handed self.old.recorder self.new.recorder
             self.old.hall.state.tables self.new.hall.state.tables) }
@@ -142,27 +141,18 @@ impl<W: Log, A: Archive> RecordedHall<W, A> {
     }
 }
 
-/// The moment of an event.
-fn moment_of(event: Event<'_>) -> u64 {
-    match event {
-        Event::Piece { at, .. } => at,
-        Event::Ended { at, .. } => at,
-        Event::Tick { at } => at,
-    }
-}
-
 /// The same event, later by so much.
-fn later<'a>(event: Event<'a>, since: u64) -> Event<'a>
-    ensures { match_event result ≡ later_event since (match_event event.entry) }
+fn later<'a>(event: Event<&'a [u8]>, since: u64) -> Event<&'a [u8]>
+    ensures { event_of result ≡ later_event since (event_of event.entry) }
 {
     match event {
-        Event::Piece { seat, at, bytes } => Event::Piece {
-            seat,
+        Event::Piece { source, at, bytes } => Event::Piece {
+            source,
             at: at.saturating_add(since),
             bytes,
         },
-        Event::Ended { seat, at } => Event::Ended {
-            seat,
+        Event::Ended { source, at } => Event::Ended {
+            source,
             at: at.saturating_add(since),
         },
         Event::Tick { at } => Event::Tick {
@@ -192,8 +182,8 @@ impl<W: Log, A: Archive> Engine for RecordedHall<W, A> {
 
     ghost first_due = { λ recorded due. IsDueSince recorded.since recorded.hall.state.tables due };
 
-    fn handle(&mut self, event: Event<'_>, outbox: &mut HallOut) -> Result<(), Memory> {
-        if self.note_late(moment_of(event)) {
+    fn handle(&mut self, event: Event<&[u8]>, outbox: &mut HallOut) -> Result<(), Memory> {
+        if self.note_late(event.at()) {
             return Err(Memory);
         }
         self.hall.handle(later(event, self.since), outbox)?;

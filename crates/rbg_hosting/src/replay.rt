@@ -1,10 +1,9 @@
 //! A hall hears what the logs of its matches hold.
 ghost use Rattle.std.specs.Prelude.{◌≡◌, ◌+◌, ◌<◌, ◌≤◌, ◌^◌, ◌++◌, ◌&&◌, [], nat_le, length, map, IfOk, IfSome, IsTrue, OnOk};
-ghost use Rattle.rbg_hall.specs.Events.{event_of as hall_event, sends};
+ghost use Rattle.rbg_script.specs.Events.{event_of, piece, owned_event_of};
 ghost use Rattle.rbg_hosting.specs.Pasts.{ended_on, heard_on, line_on, past_from, past_of, script_from, sent_by_each, sent_on};
 ghost use Rattle.rbg_hosting.specs.internal.Recorded.{HearsMore};
 ghost use Rattle.rbg_hosting.specs.internal.Resuming.{past_in_code, pasts_in};
-ghost use Rattle.rbg_script.specs.Events.{event_of as scripted_event};
 ghost use Rattle.rbg_script.specs.Scripts.{script_of as abstract_script};
 ghost use Rattle.rbg_wire.specs.Messages.{join_message, spelling};
 
@@ -12,9 +11,9 @@ use crate::ServingFault;
 use crate::past::Past;
 use crate::recorded_hall::RecordedHall;
 use crate::seats::count_at;
-use rbg_hall::{HallEvent, HallOut};
+use rbg_hall::HallOut;
 use rbg_network::Archive;
-use rbg_script::{Script, ScriptEvent};
+use rbg_script::{Event, Script};
 use rbg_serving::{Log, ServeError};
 use rbg_wire::{Message, write_message};
 use std::alloc::{AllocError, Global};
@@ -150,9 +149,9 @@ fn script_events<'a>(
     alloc: Global,
     heard: HeardMatch<'a>,
     seats: Seats,
-) -> Result<Vec<HallEvent<'a>>, AllocError>
+) -> Result<Vec<Event<&'a [u8]>>, AllocError>
     requires { seats.line + seats.players < 2 ^ 64 }
-    ensures { IfOk result (λ events. map hall_event events.items
+    ensures { IfOk result (λ events. map event_of events.items
         ≡ script_from heard.entry.asked.now seats.line seats.players (abstract_script heard.entry.script.now)) }
 {
     let HeardMatch { asked, script } = heard;
@@ -167,15 +166,15 @@ fn add_asking<'a>(
     asked: &'a [u8],
     seats: Seats,
     at: u64,
-    events: &mut Vec<HallEvent<'a>>,
+    events: &mut Vec<Event<&'a [u8]>>,
 ) -> Result<(), AllocError>
     requires { seats.line + seats.players < 2 ^ 64 }
-    ensures { OnOk result (map hall_event events.new.items
-        ≡ map hall_event events.old.items ++ sent_by_each seats.line at asked.now seats.players) }
+    ensures { OnOk result (map event_of events.new.items
+        ≡ map event_of events.old.items ++ sent_by_each seats.line at asked.now seats.players) }
 {
     for index in 0..seats.players {
-        events.push(HallEvent::Piece {
-            line: seats.line + index,
+        events.push(Event::Piece {
+            source: seats.line + index,
             at,
             bytes: asked,
         })?;
@@ -185,14 +184,14 @@ fn add_asking<'a>(
 
 /// Adds these events of a script.
 fn add_events<'a>(
-    script: &'a [ScriptEvent],
+    script: &'a [Event<Vec<u8>>],
     seats: Seats,
-    events: &mut Vec<HallEvent<'a>>,
+    events: &mut Vec<Event<&'a [u8]>>,
 ) -> Result<(), AllocError>
     requires { seats.line + seats.players < 2 ^ 64 }
-    ensures { OnOk result (map hall_event events.new.items
-        ≡ map hall_event events.old.items
-        ++ map (λ event. heard_on seats.line seats.players (scripted_event event)) script.now) }
+    ensures { OnOk result (map event_of events.new.items
+        ≡ map event_of events.old.items
+        ++ map (λ event. heard_on seats.line seats.players (owned_event_of event)) script.now) }
 {
     for event in script {
         events.push(event_of(event, seats))?;
@@ -201,48 +200,51 @@ fn add_events<'a>(
 }
 
 /// What a hall hears of an event of a script.
-fn event_of(event: &ScriptEvent, seats: Seats) -> HallEvent<'_>
+fn event_of(event: &Event<Vec<u8>>, seats: Seats) -> Event<&[u8]>
     requires { seats.line + seats.players < 2 ^ 64 }
-    ensures { hall_event result ≡ heard_on seats.line seats.players (scripted_event event.now) }
+    ensures { event_of result ≡ heard_on seats.line seats.players (owned_event_of event.now) }
 {
     match event {
-        ScriptEvent::Piece { seat, at, bytes } => piece_of(
-            line_of(*seat, seats),
-            *at,
+        Event::Piece {
+            source: seat,
+            at,
             bytes,
-            seats,
-        ),
-        ScriptEvent::Ended { seat, at } => end_of(line_of(*seat, seats), *at, seats),
-        ScriptEvent::Tick { at } => moment_of(*at, seats),
+        } => piece_of(line_of(*seat, seats), *at, bytes, seats),
+        Event::Ended { source: seat, at } => end_of(line_of(*seat, seats), *at, seats),
+        Event::Tick { at } => moment_of(*at, seats),
     }
 }
 
 /// A line sends these bytes; if there is none, a moment is heard.
-fn piece_of(line: Option<u64>, at: u64, bytes: &[u8], seats: Seats) -> HallEvent<'_>
-    ensures { hall_event result ≡ sent_on seats.line at line bytes.now }
+fn piece_of(line: Option<u64>, at: u64, bytes: &[u8], seats: Seats) -> Event<&[u8]>
+    ensures { event_of result ≡ sent_on seats.line at line bytes.now }
 {
     match line {
-        Some(line) => HallEvent::Piece { line, at, bytes },
+        Some(line) => Event::Piece {
+            source: line,
+            at,
+            bytes,
+        },
         None => moment_of(at, seats),
     }
 }
 
 /// A line ends; if there is none, a moment is heard.
-fn end_of<'a>(line: Option<u64>, at: u64, seats: Seats) -> HallEvent<'a>
-    ensures { hall_event result ≡ ended_on seats.line at line }
+fn end_of<'a>(line: Option<u64>, at: u64, seats: Seats) -> Event<&'a [u8]>
+    ensures { event_of result ≡ ended_on seats.line at line }
 {
     match line {
-        Some(line) => HallEvent::Ended { line, at },
+        Some(line) => Event::Ended { source: line, at },
         None => moment_of(at, seats),
     }
 }
 
 /// A moment, as the match alone hears it.
-fn moment_of<'a>(at: u64, seats: Seats) -> HallEvent<'a>
-    ensures { hall_event result ≡ sends seats.line at [] }
+fn moment_of<'a>(at: u64, seats: Seats) -> Event<&'a [u8]>
+    ensures { event_of result ≡ piece seats.line at [] }
 {
-    HallEvent::Piece {
-        line: seats.line,
+    Event::Piece {
+        source: seats.line,
         at,
         bytes: &[],
     }
@@ -272,9 +274,9 @@ fn is_seat(seat: u64, players: u64) -> bool
 fn hear_all<W: Log, A: Archive>(
     recorded: &mut RecordedHall<W, A>,
     out: &mut HallOut,
-    events: &[HallEvent<'_>],
+    events: &[Event<&[u8]>],
 ) -> Result<(), ServingFault>
-    ensures { HearsMore A.handed recorded.old recorded.new out.old out.new (map hall_event events.now) result }
+    ensures { HearsMore A.handed recorded.old recorded.new out.old out.new (map event_of events.now) result }
 {
     for event in events {
         match recorded.hear(event, out) {

@@ -1,7 +1,7 @@
 //! A hall over connections: its players are waited for, its matches are played at once, and their records are given.
 ghost use Rattle.std.specs.Prelude.{◌≡◌, ◌≤◌, ℕ, Bool, [], List, length, IfOk, OnOk};
 ghost use Rattle.rbg_hall.specs.Halls.{AbstractTable, begun_at};
-ghost use Rattle.rbg_hall.specs.Events.{AbstractHallEvent};
+ghost use Rattle.rbg_script.specs.Events.{AbstractEvent};
 ghost use Rattle.rbg_hall.specs.TableLimits.{lines_in_all};
 ghost use Rattle.rbg_hall.specs.Wholes.{HasRun};
 ghost use Rattle.rbg_hosting.specs.Records.{AreHallsRecords, ArePrintedMatches, HasEnded};
@@ -101,10 +101,10 @@ pub(crate) fn play_seated<N: Network, A: Archive>(
     out: &mut HallOut,
     going: Going<'_>,
 ) -> Result<(), ServingFault>
-    ensures ended { OnOk result ((starts : List AbstractTable) (past : List AbstractHallEvent) →
+    ensures ended { OnOk result ((starts : List AbstractTable) (past : List AbstractEvent) →
         HasRun starts past recorded.old.hall.state out.old →
         HasEnded starts recorded.new.hall.state) }
-    ensures archived { (starts : List AbstractTable) (matches : ℕ) (past : List AbstractHallEvent) →
+    ensures archived { (starts : List AbstractTable) (matches : ℕ) (past : List AbstractEvent) →
         length starts ≡ length going.entry.players.now →
         HasHeard A.handed starts matches recorded.old.recorder past recorded.old.hall.state out.old →
         RunEnds A.handed N.Clock.told starts matches past recorded.new result }
@@ -149,10 +149,10 @@ fn run_hall<S: Read + Write + Drop, C: Clock, W: Log, A: Archive>(
 ) -> Result<(), ServingFault>
     requires lines { length lines.old ≤ lines_in_all }
     requires clock { C.told clock.old [] }
-    ensures ended { OnOk result ((starts : List AbstractTable) (past : List AbstractHallEvent) →
+    ensures ended { OnOk result ((starts : List AbstractTable) (past : List AbstractEvent) →
         HasRun starts past recorded.old.hall.state out.old →
         HasEnded starts recorded.new.hall.state) }
-    ensures archived { (starts : List AbstractTable) (matches : ℕ) (past : List AbstractHallEvent) →
+    ensures archived { (starts : List AbstractTable) (matches : ℕ) (past : List AbstractEvent) →
         HasSince recorded.old starts →
         HasHeard A.handed starts matches recorded.old.recorder past recorded.old.hall.state out.old →
         RunEnds A.handed C.told starts matches past recorded.new result }

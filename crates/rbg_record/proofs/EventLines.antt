@@ -3,7 +3,7 @@ use Rattle.rbg_base.proofs.Common.{◌≡◌, ◌≢◌, ℕ, zero, suc, List, [
 use Rattle.rbg_base.proofs.CallerLemmas.{AllZip-append}
 use Rattle.rbg_wire.proofs.Common.{LacksByte, line_feed, line_of, lines_of, ArePairs, message_text, pairs_text, spelling, AppendsAll}
 use Rattle.rbg_record.proofs.Lacking.{pairs_feedless}
-use Rattle.rbg_script.specs.Events.{AbstractEvent, piece_event, EventHasSpelling, HasFields, SpellsEvent, by_message, event_text, fields_text}
+use Rattle.rbg_script.specs.Events.{EventHasSpelling, HasFields, SpellsEvent, by_message, event_text, fields_text, AbstractEvent, piece}
 use Rattle.rbg_script.proofs.Lacking.{written_read, message_lacks}
 use Rattle.rbg_record.specs.Scripting.{move_events}
 use Rattle.rbg_record.specs.internal.Telling.{AppendsEvents}
@@ -26,16 +26,16 @@ tells_event event old new (Ok done) has appends = tells_line (event_text event) 
 tells_event event old new (Err error) has appends = tt
 
 -- a message
-pub tells_message : {E : Type 0} (seat at : ℕ) (said old new : List ℕ) (result : Result (Unit {0}) E) → HasFields (fields_text (codes "m ") seat at said) (codes "m ") seat at said → LacksByte line_feed said → AppendsAll old new (line_of (fields_text (codes "m ") seat at said)) result → OnOk result (AppendsEvents (piece_event seat at (said ++ 0 ∷ []) ∷ []) old new)
+pub tells_message : {E : Type 0} (seat at : ℕ) (said old new : List ℕ) (result : Result (Unit {0}) E) → HasFields (fields_text (codes "m ") seat at said) (codes "m ") seat at said → LacksByte line_feed said → AppendsAll old new (line_of (fields_text (codes "m ") seat at said)) result → OnOk result (AppendsEvents (piece seat at (said ++ 0 ∷ []) ∷ []) old new)
 tells_message seat at said old new (Ok done) fields lacks appends =
-    tells_line (fields_text (codes "m ") seat at said) (piece_event seat at (said ++ 0 ∷ [])) old new (by_message seat at said fields) (message_lacks seat at said fields.numbers lacks) appends.ok
+    tells_line (fields_text (codes "m ") seat at said) (piece seat at (said ++ 0 ∷ [])) old new (by_message seat at said fields) (message_lacks seat at said fields.numbers lacks) appends.ok
 tells_message seat at said old new (Err error) fields lacks appends = tt
 
 -- the text of a move
 pub move_lacks : (pairs : List (ℕ × ℕ)) → ArePairs pairs → LacksByte line_feed (77 ∷ pairs_text pairs)
 move_lacks pairs are = All-cons (λ byte. byte ≢ line_feed) 77 (pairs_text pairs) (λ same. absurd (omega (arith, same))) (pairs_feedless pairs are.short)
 
-pub moves_of_player : (at player : ℕ) (pairs : List (ℕ × ℕ)) → (player ≡ 0 → ⊥) → move_events at player pairs ≡ piece_event player at ((77 ∷ pairs_text pairs) ++ 0 ∷ []) ∷ []
+pub moves_of_player : (at player : ℕ) (pairs : List (ℕ × ℕ)) → (player ≡ 0 → ⊥) → move_events at player pairs ≡ piece player at ((77 ∷ pairs_text pairs) ++ 0 ∷ []) ∷ []
 unfolding spelling message_text
 moves_of_player at zero pairs other = absurd (other refl)
 moves_of_player at (suc before) pairs other = refl
@@ -46,10 +46,10 @@ moves_of_keeper at player pairs keeper = ap (λ (one : ℕ). move_events at one 
 -- the line of a move that a player makes
 pub made_told : (at player : ℕ) (pairs : List (ℕ × ℕ)) (said old new : List ℕ) → (player ≡ 0 → ⊥) → ArePairs pairs → said ≡ codes "M" ++ pairs_text pairs → HasFields (fields_text (codes "m ") player at said) (codes "m ") player at said → new ≡ old ++ line_of (fields_text (codes "m ") player at said) → AppendsEvents (move_events at player pairs) old new
 made_told at player pairs said old new other are is fields written =
-    let spells = subst (λ (one : List ℕ). SpellsEvent (fields_text (codes "m ") player at said) (piece_event player at (one ++ 0 ∷ []))) is (by_message player at said fields) in
+    let spells = subst (λ (one : List ℕ). SpellsEvent (fields_text (codes "m ") player at said) (piece player at (one ++ 0 ∷ []))) is (by_message player at said fields) in
     let lacks = message_lacks player at said fields.numbers (subst (LacksByte line_feed) (sym is) (move_lacks pairs are)) in
     subst (λ (events : List AbstractEvent). AppendsEvents events old new) (sym (moves_of_player at player pairs other))
-    (tells_line (fields_text (codes "m ") player at said) (piece_event player at ((77 ∷ pairs_text pairs) ++ 0 ∷ [])) old new spells lacks written)
+    (tells_line (fields_text (codes "m ") player at said) (piece player at ((77 ∷ pairs_text pairs) ++ 0 ∷ [])) old new spells lacks written)
 
 -- events after others
 pub tells_both : (first next : List AbstractEvent) (old middle new : List ℕ) → AppendsEvents first old middle → AppendsEvents next middle new → AppendsEvents (first ++ next) old new

@@ -20,23 +20,23 @@ use Rattle.rbg_record.specs.Reading as reading
 use Rattle.rbg_record.specs.Right.{turn_config}
 use Rattle.rbg_match.specs.Config.{IsWithinLimits}
 use Rattle.rbg_script.specs.declared.config.ScriptConfig.{ScriptConfig}
-use Rattle.rbg_script.specs.Events.{AbstractEvent, piece_event, end_event, tick_event}
+use Rattle.rbg_script.specs.Events.{AbstractEvent, piece, end_of_stream, moment_alone}
 use Rattle.rbg_script.specs.Scripts.{SpellsScript}
 
 -- A player sends its move at the move's moment. The keeper moves by itself.
 abbrev pub move_events : (at player : ℕ) → (pairs : List (ℕ × ℕ)) → List AbstractEvent
 move_events at zero pairs = []
-move_events at (suc before) pairs = piece_event (suc before) at (spelling (move_message pairs)) ∷ []
+move_events at (suc before) pairs = piece (suc before) at (spelling (move_message pairs)) ∷ []
 
 -- The end follows from an event at its moment: the moment alone if a time is over, a message without a text if a player
 -- was refused too often, the end of a stream if a player has gone. A match that is finished, or that meets a question
 -- above the limits, ends by itself. One that is in play continues to the moment.
 abbrev pub end_events : (at : ℕ) → Option Outcome → List AbstractEvent
-end_events at None = tick_event at ∷ []
+end_events at None = moment_alone at ∷ []
 end_events at (Some (Finished scores)) = []
-end_events at (Some (Time player)) = tick_event at ∷ []
-end_events at (Some (Refusals player)) = piece_event player at (0 ∷ []) ∷ []
-end_events at (Some (Gone player)) = end_event player at ∷ []
+end_events at (Some (Time player)) = moment_alone at ∷ []
+end_events at (Some (Refusals player)) = piece player at (0 ∷ []) ∷ []
+end_events at (Some (Gone player)) = end_of_stream player at ∷ []
 end_events at (Some Heavy) = []
 
 abbrev pub entry_events : (at : ℕ) → Entry → List AbstractEvent

@@ -1,6 +1,6 @@
 -- A hall whose records are handed to an archive, as a call that serves it knows it.
 use Rattle.std.specs.Prelude.{◌≡◌, ◌⊎◌, ◌-◌, ◌≤◌, ◌<◌, ◌||◌, ℕ, suc, Bool, true, false, List, [], ◌∷◌, ◌++◌, Option, Some, Result, Ok, Err, is_some, length, replicate, slice_index_or, MatchResult}
-use Rattle.rbg_hall.specs.Events.{AbstractHallEvent}
+use Rattle.rbg_script.specs.Events.{AbstractEvent}
 use Rattle.rbg_hall.specs.Halls.{AbstractTable, HallState, begun_at}
 use Rattle.rbg_hall.specs.Hearing.{HallHears}
 use Rattle.rbg_hall.specs.Serving.{HaveAllEnded, MaySpeak, hall_event, has_ended}
@@ -116,7 +116,7 @@ pub record IsFresh {A : Type 0} (told : A → List Handed → Type 0) (recorder 
 -- A hall with these tables has heard these events, stands so, and has these bytes queued. Meanwhile its recorder has handed
 -- over what is to be handed over of so many matches, and knows which ones have ended.
 pub record HasHeard {A : Type 0} (told : A → List Handed → Type 0) (starts : List AbstractTable) (matches : ℕ)
-    (recorder : Recorder A) (events : List AbstractHallEvent) (state : HallState) (queues : List (List ℕ)) : Type 0 where
+    (recorder : Recorder A) (events : List AbstractEvent) (state : HallState) (queues : List (List ℕ)) : Type 0 where
   pub as_many : places recorder ≡ matches
   pub noted : AreNoted recorder state.tables
   pub handed : List Handed
@@ -125,17 +125,17 @@ pub record HasHeard {A : Type 0} (told : A → List Handed → Type 0) (starts :
 
 -- It had to hear more events, and is served no more after a front part of them.
 pub record HasStopped {A : Type 0} (told : A → List Handed → Type 0) (starts : List AbstractTable) (matches : ℕ)
-    (recorder : Recorder A) (earlier more : List AbstractHallEvent) : Type 0 where
-  pub heard : List AbstractHallEvent
-  pub left : List AbstractHallEvent
+    (recorder : Recorder A) (earlier more : List AbstractEvent) : Type 0 where
+  pub heard : List AbstractEvent
+  pub left : List AbstractEvent
   pub parts : more ≡ heard ++ left
   pub state : HallState
   pub queues : List (List ℕ)
   pub is : HasHeard told starts matches recorder (earlier ++ heard) state queues
 
 -- a hall that had heard events, and has to hear more, has heard them, or a front part of them
-abbrev pub HearsMore : {W A U E : Type 0} → (told : A → List Handed → Type 0) → (old new : RecordedHall W A) → (before after : List (List ℕ)) → (more : List AbstractHallEvent) → Result U E → Type 0
-HearsMore told old new before after more result = (starts : List AbstractTable) (matches : ℕ) (earlier : List AbstractHallEvent) →
+abbrev pub HearsMore : {W A U E : Type 0} → (told : A → List Handed → Type 0) → (old new : RecordedHall W A) → (before after : List (List ℕ)) → (more : List AbstractEvent) → Result U E → Type 0
+HearsMore told old new before after more result = (starts : List AbstractTable) (matches : ℕ) (earlier : List AbstractEvent) →
     HasHeard told starts matches old.recorder earlier old.hall.state before →
     MatchResult result
     (λ _. HasHeard told starts matches new.recorder (earlier ++ more) new.hall.state after)
@@ -144,7 +144,7 @@ HearsMore told old new before after more result = (starts : List AbstractTable) 
 -- A recorder has handed over what is to be handed over of so many matches in a run of a hall with these tables, which heard
 -- these events and stands so.
 pub record HasArchived {A : Type 0} (told : A → List Handed → Type 0) (starts : List AbstractTable) (matches : ℕ)
-    (events : List AbstractHallEvent) (recorder : Recorder A) (state : HallState) : Type 0 where
+    (events : List AbstractEvent) (recorder : Recorder A) (state : HallState) : Type 0 where
   pub handed : List Handed
   pub has : HasHanded told recorder handed
   pub queues : List (List ℕ)
@@ -152,9 +152,9 @@ pub record HasArchived {A : Type 0} (told : A → List Handed → Type 0) (start
 
 -- The same, where a past was heard first, and then others by a clock.
 pub record HasArchivedAfter {A C : Type 0} (told : A → List Handed → Type 0) (clock : C → List ℕ → Type 0)
-    (starts : List AbstractTable) (matches : ℕ) (past : List AbstractHallEvent) (recorder : Recorder A) (state : HallState) :
+    (starts : List AbstractTable) (matches : ℕ) (past : List AbstractEvent) (recorder : Recorder A) (state : HallState) :
     Type 0 where
-  pub later : List AbstractHallEvent
+  pub later : List AbstractEvent
   pub goes_on : GoesOnAfter clock starts past later
   pub archived : HasArchived told starts matches (past ++ later) recorder state
 
@@ -164,16 +164,16 @@ IsOfDevice fault = (fault ≡ DeviceFailed) ⊎ (fault ≡ Rounds)
 
 -- A recorder has handed over what is to be handed over in a run that led to some state, after which it was served no more.
 pub record IsStopped {A C : Type 0} (told : A → List Handed → Type 0) (clock : C → List ℕ → Type 0)
-    (starts : List AbstractTable) (matches : ℕ) (past : List AbstractHallEvent) (recorder : Recorder A) (fault : ServingFault) :
+    (starts : List AbstractTable) (matches : ℕ) (past : List AbstractEvent) (recorder : Recorder A) (fault : ServingFault) :
     Type 0 where
-  pub events : List AbstractHallEvent
+  pub events : List AbstractEvent
   pub hears : HearsPast clock starts past events
   pub state : HallState
   pub archived : HasArchived told starts matches events recorder state
   pub device : recorder.lost ≡ true → IsOfDevice fault
 
 -- how the serving of a hall ends that had this past
-abbrev pub RunEnds : {W A C U : Type 0} → (told : A → List Handed → Type 0) → (clock : C → List ℕ → Type 0) → List AbstractTable → (matches : ℕ) → (past : List AbstractHallEvent) → (after : RecordedHall W A) → Result U ServingFault → Type 0
+abbrev pub RunEnds : {W A C U : Type 0} → (told : A → List Handed → Type 0) → (clock : C → List ℕ → Type 0) → List AbstractTable → (matches : ℕ) → (past : List AbstractEvent) → (after : RecordedHall W A) → Result U ServingFault → Type 0
 RunEnds told clock starts matches past after (Ok _) = HasArchivedAfter told clock starts matches past after.recorder after.hall.state
 RunEnds told clock starts matches past after (Err fault) = IsStopped told clock starts matches past after.recorder fault
 

@@ -15,7 +15,7 @@ use Rattle.rbg_record.specs.Entries.{SpellsIn}
 use Rattle.rbg_record.specs.Heading.{version_text, SpellsPlayers}
 use Rattle.rbg_script.specs.declared.config.ScriptConfig.{ScriptConfig}
 use Rattle.rbg_script.specs.Config.{ConfigHasSpelling, config_text}
-use Rattle.rbg_script.specs.Events.{AbstractEvent, SpellsEvent}
+use Rattle.rbg_script.specs.Events.{SpellsEvent, AbstractEvent}
 use Rattle.rbg_record.specs.declared.script_error.ScriptingError.{ScriptingError}
 use Rattle.rbg_record.specs.declared.script_error.ScriptingError.TheVariants.{Form, Memory}
 use Rattle.rbg_record.specs.Scripting.{HasForm, IsHead, IsMove, IsNoRecord, LeadsOn, LeadThere, events_in}

@@ -1,6 +1,6 @@
 -- The first players ask.
 use Rattle.std.proofs.Common.{◌≡◌, ◌++◌, map}
-use Rattle.rbg_hall.proofs.Common.{event_of}
+use Rattle.rbg_script.specs.Events.{event_of}
 use Rattle.rbg_hosting.specs.Pasts.{sent_by_each}
 use Rattle.rbg_hosting.proofs.replay.add_asking.Given as goal
 

@@ -1,6 +1,6 @@
 -- The hall hears the events of the script.
 use Rattle.std.proofs.Common.{◌∙◌, ap, map}
-use Rattle.rbg_hall.proofs.Common.{event_of}
+use Rattle.rbg_script.specs.Events.{event_of}
 use Rattle.rbg_hosting.proofs.PastLemmas.{hears_same, stopped_first}
 use Rattle.rbg_hosting.proofs.replay.replay_asked.Goals as goal
 

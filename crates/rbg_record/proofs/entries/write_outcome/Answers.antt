@@ -2,7 +2,7 @@
 use Rattle.rbg_base.proofs.Common.{◌≢◌, [], Some, subst, sym, OnOk, All-nil}
 use Rattle.rbg_wire.specs.declared.outcome.Outcome.{Outcome}
 use Rattle.rbg_wire.specs.Lines.{line_feed}
-use Rattle.rbg_script.specs.Events.{end_event, tick_event}
+use Rattle.rbg_script.specs.Events.{end_of_stream, moment_alone}
 use Rattle.rbg_record.specs.Scripting.{end_events}
 use Rattle.rbg_record.specs.internal.Telling.{AppendsEvents}
 use Rattle.rbg_record.proofs.EventLines.{tells_event, tells_message}
@@ -11,7 +11,7 @@ use Rattle.rbg_record.proofs.entries.write_outcome.Goals as goal
 pub returns-in-Time : goal.returns-in-Time
 returns-in-Time c =
     subst (λ (one : Outcome). OnOk c.write_tick.result (AppendsEvents (end_events c.args.at (Some one)) c.args.out.now.items c.write_tick.new.out.items)) (sym c.in-Time.is)
-    (tells_event (tick_event c.args.at) c.args.out.now.items c.write_tick.new.out.items c.write_tick.result c.write_tick.ensures.spelled c.write_tick.ensures.written)
+    (tells_event (moment_alone c.args.at) c.args.out.now.items c.write_tick.new.out.items c.write_tick.result c.write_tick.ensures.spelled c.write_tick.ensures.written)
 
 pub returns-in-Refusals : goal.returns-in-Refusals
 returns-in-Refusals c =
@@ -21,4 +21,4 @@ returns-in-Refusals c =
 pub returns-in-Gone : goal.returns-in-Gone
 returns-in-Gone c =
     subst (λ (one : Outcome). OnOk c.write_end.result (AppendsEvents (end_events c.args.at (Some one)) c.args.out.now.items c.write_end.new.out.items)) (sym c.in-Gone.is)
-    (tells_event (end_event c.in-Gone.player c.args.at) c.args.out.now.items c.write_end.new.out.items c.write_end.result c.write_end.ensures.spelled c.write_end.ensures.written)
+    (tells_event (end_of_stream c.in-Gone.player c.args.at) c.args.out.now.items c.write_end.new.out.items c.write_end.result c.write_end.ensures.spelled c.write_end.ensures.written)

@@ -1,7 +1,7 @@
 -- The hall hears what comes in time, and then hands over what is to be handed over.
 use Rattle.rbg_base.proofs.Common.{◌∙◌, ap, subst, sym}
 use Rattle.rbg_hall.proofs.Common.{HallHears, HeldHall, hall_event}
-use Rattle.rbg_match.specs.Inputs.{AbstractEvent, event_of}
+use Rattle.rbg_script.specs.Events.{AbstractEvent, event_of}
 use Rattle.rbg_hosting.specs.Moments.{later_event}
 use Rattle.rbg_hosting.specs.declared.recorder.Recorder.{Recorder}
 use Rattle.rbg_hosting.specs.internal.Recorded.{HandsOver}
