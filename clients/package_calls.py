@@ -176,6 +176,14 @@ def files(file: Path) -> None:
             expect("what is missed", "/nowhere" in str(error), True)
 
 
+def quiet() -> None:
+    """Before the first move nothing has to come for 100 ms, or a tenth of a shorter turn."""
+    for turn, seconds in ((100, 0.01), (1000, 0.1), (60_000, 0.1)):
+        seat = rbg.playing.Seat(None)
+        seat.hear(b"L%d 3" % turn)
+        expect(f"quiet in a turn of {turn} ms", seat.quiet, seconds)
+
+
 def pages() -> None:
     """`pydoc rbg` names what a player asks for."""
     page = pydoc.plain(pydoc.render_doc(rbg))
@@ -209,6 +217,7 @@ def check_calls(program: str, file: Path) -> str:
     searches(program, file)
     old_states(file, first_heard(program, file))
     files(file)
+    quiet()
     pages()
     return f"what is accepted and refused is as it should be, in {time.monotonic() - began:.1f} s"
 

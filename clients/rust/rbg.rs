@@ -226,7 +226,7 @@ impl State {
         State::made(|to| unsafe { rbg_begin(text.as_ptr(), text.len(), to) })
     }
 
-    /// A copy, from which no move can be undone.
+    /// A copy, from which no move can be undone, and in which no moves are found yet.
     pub fn copy(&self) -> Result<State, Refused> {
         State::made(|to| unsafe { rbg_copy(self.at(), to) })
     }
@@ -294,7 +294,8 @@ impl State {
         self.items(|state, items, room, needed| unsafe { rbg_move(state, index, items, room, needed) })
     }
 
-    /// Makes the move of this index, and the keeper's moves after it.
+    /// Makes the move of this index, and the keeper's moves after it. `ILLEGAL` also means that no moves were found since the last
+    /// one was made or undone.
     pub fn make_found(&mut self, index: u64) -> Result<(), Refused> {
         answer(unsafe { rbg_make_found(self.at(), index) })
     }
