@@ -147,6 +147,10 @@ def copies(state: rbg.State) -> None:
     """A copy has a place of its own, however it is made. A state isn't pickled, and what is said names what is."""
     for made in (copy.copy(state), copy.deepcopy(state), copy.deepcopy([state])[0], state.copy()):
         expect("a copy", (made == state, made.make(LEGAL) == state, made.game is state.game), (True, False, True))
+    spiel = rbg.SpielGame(state.game).new_initial_state()
+    for other in (copy.copy(spiel), copy.deepcopy(spiel)):
+        other.apply_action(other.legal_actions()[0])
+        expect("a copy by OpenSpiel's names", (spiel.move_number(), other.move_number()), (0, 1))
     try:
         pickle.dumps(state)
         raise Wrong("a state was pickled")
@@ -164,6 +168,19 @@ def keys(game: rbg.Game) -> None:
     expect("position keys", (len(positions), len({state.key for state in states}) > len(positions)), (len(exact), True))
     moves = {(state.position_key, tuple(state.moves())) for state in states}
     expect("legal moves by position keys", len(moves), len(positions))
+
+
+def interrupted(file: Path) -> None:
+    """A session with an answer that wasn't read is ended: the answer would be taken for a later one."""
+    with rbg.Game.load(file, library=False) as game:
+        session, state = game.opened.session, game.state()  # type: ignore[union-attr]
+        session.line = lambda: 1 / 0  # type: ignore[method-assign,assignment,return-value]
+        try:
+            with hushed():
+                state.moves()
+        except ZeroDivisionError:
+            del session.line
+        expect("what is asked after it", (refusal(state.moves), refusal(lambda: state.key)), ("closed", "closed"))
 
 
 def files(file: Path) -> None:
@@ -216,6 +233,7 @@ def check_calls(program: str, file: Path) -> str:
         keys(game)
     searches(program, file)
     old_states(file, first_heard(program, file))
+    interrupted(file)
     files(file)
     quiet()
     pages()
