@@ -51,7 +51,7 @@ def expect(what: str, found: object, wanted: object) -> None:
 
 @contextmanager
 def hushed() -> Iterator[None]:
-    """Nothing is said on standard error meanwhile."""
+    """Nothing is said on standard error meanwhile, nor by what is started meanwhile."""
     kept, none = os.dup(2), os.open(os.devnull, os.O_WRONLY)
     os.dup2(none, 2)
     try:
@@ -134,6 +134,7 @@ def old_states(file: Path, first: str) -> None:
     game.close()
     game.close()
     calls = [now.moves, now.copy, lambda: now.board, unpacked.moves, game.state, lambda: game.unpack(b"\1"), lambda: game.shape]
+    expect("a state of a game that was closed, written", repr(now)[:9], "<0 moves,")
     expect("a game that was closed", [refusal(call) for call in [*calls, lambda: game.hear("0 1")]], ["closed"] * 8)
 
 
@@ -172,12 +173,11 @@ def keys(game: rbg.Game) -> None:
 
 def interrupted(file: Path) -> None:
     """A session with an answer that wasn't read is ended: the answer would be taken for a later one."""
-    with rbg.Game.load(file, library=False) as game:
+    with hushed(), rbg.Game.load(file, library=False) as game:
         session, state = game.opened.session, game.state()  # type: ignore[union-attr]
         session.line = lambda: 1 / 0  # type: ignore[method-assign,assignment,return-value]
         try:
-            with hushed():
-                state.moves()
+            state.moves()
         except ZeroDivisionError:
             del session.line
         expect("what is asked after it", (refusal(state.moves), refusal(lambda: state.key)), ("closed", "closed"))

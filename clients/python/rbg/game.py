@@ -277,4 +277,7 @@ class State:
         return int(self.read("key", self.at))
 
     def __repr__(self) -> str:
-        return f"<{len(self.made)} moves, board {self.read('board', self.at)}>"
+        try:
+            return f"<{len(self.made)} moves, board {self.read('board', self.at)}>"
+        except Refused as refused:
+            return f"<{len(self.made)} moves, {refused.word}>"

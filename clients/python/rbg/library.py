@@ -31,6 +31,7 @@ WORDS = {
     16: "text", 17: "macro", 18: "syntax", 19: "game",
 }  # fmt: skip
 SMALL = 7
+LAYERS = 16  # an answer from here on is a layer's, which refuses a description
 KEPT = 1 << 16  # so many spellings of moves are kept
 PLAYERS, PIECES, VARIABLES, DIRECTIONS = range(4)
 ROOM = 4096  # so many numbers of moves have room at first
@@ -136,7 +137,11 @@ class Library:
 
     def opened(self, name: str, text: bytes) -> "Held":
         held = Held(self)
-        held.answer(name, getattr(self.calls, name)(array_of(text), len(text), held.here))
+        result = getattr(self.calls, name)(array_of(text), len(text), held.here)
+        if result >= LAYERS:
+            _, number, offset = self.fault(text)
+            raise Refused(WORDS[result], f"{number}" if offset is None else f"{number} at byte {offset}")
+        held.answer(name, result)
         return held
 
 
