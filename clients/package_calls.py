@@ -9,6 +9,7 @@ import copy
 import os
 import pickle
 import pydoc
+import socket
 import subprocess
 import sys
 import tempfile
@@ -19,9 +20,11 @@ from typing import Any, Callable, Iterator
 
 from served import Wrong
 
-sys.path.insert(0, str(Path(__file__).resolve().parent / "python"))
+ROOT = Path(__file__).resolve().parent.parent
+sys.path.insert(0, str(ROOT / "clients/python"))
 import rbg  # noqa: E402
 
+TRIES, PATIENCE = 20, 60  # how often a player may be late, and seconds in which it has to answer at all
 BEGIN = "#players = white(100), black(100)\n#pieces = e, x\n#variables = n(40)\n#board = rectangle(up,down,left,right,[e,e])\n"
 GAMES = {  # texts that are no game's, or that no play begins with, and what refuses them
     "text": "#players = white(1)\n#pieces = &\n",
@@ -201,6 +204,38 @@ def quiet() -> None:
         expect(f"quiet in a turn of {turn} ms", seat.quiet, seconds)
 
 
+def page_of_players(program: str, file: Path, first: str) -> None:
+    """The player of WRITING_A_PLAYER.md answers in a turn of 100 ms. A machine may be slow now and then, but a player that waits
+    for 100 ms is always late."""
+    page = (ROOT / "docs/WRITING_A_PLAYER.md").read_text(encoding="utf-8")
+    code = page.split("```python player.py\n")[1].split("```")[0]
+    with tempfile.TemporaryDirectory() as folder, socket.create_server(("127.0.0.1", 0)) as server:
+        Path(folder, "rbg").symlink_to(program)
+        Path(folder, "player.py").write_text(code.replace("4710", str(server.getsockname()[1])))
+        took = [answered(folder, server, file.read_bytes(), first)]
+        while min(took) >= 0.1 and len(took) < TRIES:
+            took.append(answered(folder, server, file.read_bytes(), first))
+    expect(f"an answer in a turn of 100 ms, {took}", min(took) < 0.1, True)
+
+
+def answered(folder: str, server: socket.socket, text: bytes, first: str) -> float:
+    """In how many seconds the player in a folder answers the keeper's first move."""
+    with subprocess.Popen([sys.executable, "player.py"], cwd=folder, stdout=subprocess.DEVNULL) as player:
+        server.settimeout(PATIENCE)
+        line, _ = server.accept()
+        with line:
+            line.settimeout(PATIENCE)
+            line.sendall(b"W1 first\0G" + text + b"\0L100 3\0")
+            time.sleep(0.3)  # the rules are read meanwhile
+            began = time.monotonic()
+            line.sendall(b"M" + first.encode() + b"\0")
+            message = line.recv(4096)
+            took = time.monotonic() - began
+            line.sendall(b"E0 50 50\0")
+        expect("what is answered", (message[:1], player.wait(PATIENCE)), (b"M", 0))
+    return took
+
+
 def pages() -> None:
     """`pydoc rbg` names what a player asks for."""
     page = pydoc.plain(pydoc.render_doc(rbg))
@@ -232,7 +267,9 @@ def check_calls(program: str, file: Path) -> str:
         cost(game.state())
         keys(game)
     searches(program, file)
-    old_states(file, first_heard(program, file))
+    first = first_heard(program, file)
+    old_states(file, first)
+    page_of_players(program, file, first)
     interrupted(file)
     files(file)
     quiet()
@@ -241,4 +278,4 @@ def check_calls(program: str, file: Path) -> str:
 
 
 if __name__ == "__main__":
-    print(check_calls("./rbg", Path(sys.argv[1])))
+    print(check_calls(os.path.abspath("./rbg"), Path(sys.argv[1])))
