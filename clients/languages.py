@@ -46,7 +46,7 @@ def run(*words: object) -> None:
 def tried(folder: Path, game: Path) -> None:
     """Compiles and runs the trials of the classes for C++ and the crate for Rust, on tic-tac-toe. Each needs the crate in the
     folder. The crate's build script has to say that a new library makes a new crate."""
-    library, flags = ROOT / "librbg.a", ["-std=c++17", "-Wall", "-Wextra", "-Werror", f"-I{ROOT / 'include'}"]
+    library, flags = ROOT / "librbg.a", ["-std=c++17", "-pthread", "-Wall", "-Wextra", "-Werror", f"-I{ROOT / 'include'}"]
     for name, more in (("plain", ["-O2"]), ("sanitized", ["-O1", *SANITIZED])):
         run(os.environ.get("CXX", "g++"), *flags, *more, HERE / "cpp/trial.cpp", library, "-o", folder / f"trial_{name}")
         run(folder / f"trial_{name}", game)

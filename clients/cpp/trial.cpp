@@ -7,6 +7,7 @@
 #include <iostream>
 #include <sstream>
 #include <sys/resource.h>
+#include <thread>
 #include <unistd.h>
 
 static void check(bool holds, const std::string &what) {
@@ -73,6 +74,10 @@ static void states(const std::string &text) {
   auto [later, made] = first.sample(7, 3);
   check(made.size() == 3 && later.moves_made() == 3, "random moves");
   check(refusal([&] { rbg::State::open(text.substr(0, 200)); }) >= RBG_TEXT, "no game's text");
+  const std::vector<uint8_t> packed = later.pack();
+  uint64_t here = later.key(), there = 0;
+  std::thread([&] { there = rbg::State::open(text).unpack(packed).key(); }).join();
+  check(here == there, "a state crosses to another thread as bytes");
   playouts(first);
 }
 
