@@ -3,10 +3,11 @@
 
     languages.py GAME.. [--rbg FILE] [--think MS]
 
-The players are compiled with librbg.a first. Each plays each other one, in both orders, in each of the games, which have two
-players. Each plays chess once. Then they meet in a ring: with kings alone, where each of several moves ends play; and in the
-last game, whose referee is killed twice and goes on from its log. At last Python's player plays without the library. Each
-match has to be finished by the rules: nobody may be late, or be refused too often. A turn has a minute, so that nobody is
+The players are compiled with librbg.a first, and so are trials of what the classes for C++ and the crate for Rust accept and
+refuse, which are run on the first game, tic-tac-toe. Each plays each other one, in both orders, in each of the games, which
+have two players. Each plays chess once. Then they meet in a ring: with kings alone, where each of several moves ends play; and
+in the last game, whose referee is killed twice and goes on from its log. At last Python's player plays without the library.
+Each match has to be finished by the rules: nobody may be late, or be refused too often. A turn has a minute, so that nobody is
 late since the machine is slow.
 """
 
@@ -30,6 +31,7 @@ PATIENCE = 900  # seconds in which a match has to end, however slow the machine 
 TURN = 60_000  # milliseconds
 REFUSALS, AFTER_RESTARTS = 0, 3  # how many are allowed; a player may answer once before all that was played has come
 KILLED_AFTER = (8, 20)  # lines of the log
+SANITIZED = ["-fsanitize=address,undefined", "-fno-sanitize-recover=all"]
 
 Players = dict[str, list[str]]
 
@@ -39,6 +41,22 @@ def run(*words: object) -> None:
     done = subprocess.run([str(word) for word in words], stdout=subprocess.PIPE, stderr=subprocess.STDOUT, text=True)
     if done.returncode or done.stdout:
         raise Wrong(f"{' '.join(map(str, words))}: status {done.returncode}\n{done.stdout}")
+
+
+def tried(folder: Path, game: Path) -> None:
+    """Compiles and runs the trials of the classes for C++ and the crate for Rust, on tic-tac-toe. Each needs the crate in the
+    folder. The crate's build script has to say that a new library makes a new crate."""
+    library, flags = ROOT / "librbg.a", ["-std=c++17", "-pthread", "-Wall", "-Wextra", "-Werror", f"-I{ROOT / 'include'}"]
+    for name, more in (("plain", ["-O2"]), ("sanitized", ["-O1", *SANITIZED])):
+        run(os.environ.get("CXX", "g++"), *flags, *more, HERE / "cpp/trial.cpp", library, "-o", folder / f"trial_{name}")
+        run(folder / f"trial_{name}", game)
+    rustc = [os.environ.get("RUSTC", "rustc"), "--edition", "2021", "-O", "-D", "warnings", "-L", f"native={ROOT}"]
+    run(*rustc, "-o", folder / "trial_rust", "--extern", f"rbg={folder / 'librbg.rlib'}", HERE / "rust/trial.rs")
+    run(folder / "trial_rust", game)
+    run("env", f"CARGO_MANIFEST_DIR={HERE / 'rust'}", *rustc, "-o", folder / "build", HERE / "rust/build.rs")
+    said = subprocess.run([folder / "build"], stdout=subprocess.PIPE, text=True, env={**os.environ, "RBG_LIB": str(folder)}).stdout
+    if f"cargo:rerun-if-changed={folder}/librbg.a\n" not in said:
+        raise Wrong(f"cargo would keep an old library: {said}")
 
 
 def compiled(folder: Path) -> Players:
@@ -135,6 +153,7 @@ class Table:
 def tournament(words: argparse.Namespace, folder: Path) -> int:
     """Plays all matches, and returns how many they are."""
     players, matches = compiled(folder), 0
+    tried(folder, words.games[0])
 
     def report(what: str, one: str, other: str, last: str) -> None:
         nonlocal matches

@@ -3,10 +3,10 @@
 
     package_trial.py GAME.. [--rbg FILE]
 
-In each game one player thinks and the other one chooses at random. In one more game the keeper makes moves that a player
-could make too, and in another one each of two moves ends play. In each game a seed gives the random moves that `rbg ask`
-makes for it. The match of the first game is played once more: `rbg serve`
-is killed in the middle of it, and lets it go on from its log. Each game has two players.
+The first game is tic-tac-toe: package_calls.py tries what may be asked of it. In each game one player thinks and the other
+one chooses at random. In one more game the keeper makes moves that a player could make too, and in another one each of two
+moves ends play. In each game a seed gives the random moves that `rbg ask` makes for it. The match of the first game is played
+once more: `rbg serve` is killed in the middle of it, and lets it go on from its log. Each game has two players.
 """
 
 import argparse
@@ -20,6 +20,7 @@ import threading
 import time
 from pathlib import Path
 
+from package_calls import check_calls
 from served import Referee, Wrong, ended_before, is_good, listen
 
 sys.path.insert(0, str(Path(__file__).resolve().parent / "python"))
@@ -131,6 +132,7 @@ def main() -> int:
         shared.write_text(SHARED)
         ending.write_text(ENDING)
         try:
+            print(f"{words.games[0].name}: {check_calls(program, words.games[0])}", flush=True)
             for game in words.games:
                 compare_samples(program, game)
                 table = Table(program, game, [rbg.Thinker(0.1, 1), by_chance(1)])

@@ -7,13 +7,15 @@
    Each call keeps these rules, and asks these of its caller:
 
    - A handle (rbg_state) is zero before its first call: `rbg_state s = RBG_NO_STATE;`. Nobody but the library writes
-     to it afterwards, and it isn't copied by `=`: rbg_copy makes a copy. rbg_free lets its state go. A handle that
-     holds no state may be given to each call, which then answers RBG_EMPTY; to be freed twice does no harm.
+     to it afterwards. `=` makes no copy of a state: rbg_copy does. It may move a handle, if the old one isn't used
+     again, or is set to RBG_NO_STATE. rbg_free lets its state go. A handle that holds no state may be given to each
+     call, which then answers RBG_EMPTY; to be freed twice does no harm.
    - No pointer is NULL, even if the length after it is 0. Pointers of one call don't overlap.
    - A buffer comes with its room: how many items it can take. The call stores in *needed how many there are, and puts
      them at its beginning. If they are more than its room, the call answers RBG_SMALL, and the buffer is as before.
    - A call that fails leaves its states as they were.
-   - A handle is used by the thread that made it. Other threads open games of their own.
+   - A handle is used by the thread that made it. Other threads open games of their own. A state crosses to one as
+     bytes: rbg_pack here, then rbg_open and rbg_unpack there.
    - malloc, realloc and free come from one allocator, as in each usual program. No call is made from a signal handler.
      A call may use some 100 kB of stack.
 
@@ -87,7 +89,8 @@ rbg_result rbg_begin(const uint8_t *text, size_t length, rbg_state *state);
 /* Lets a state go. */
 void rbg_free(rbg_state *state);
 
-/* Makes `to` a copy of `from`. The copy is of the same game, which isn't copied, and none of its moves can be undone.
+/* Makes `to` a copy of `from`. The copy is of the same game, which isn't copied. None of its moves can be undone, and
+   none are found there yet.
    A state that `to` held is let go, if the call succeeds. */
 rbg_result rbg_copy(rbg_state *from, rbg_state *to);
 
@@ -104,7 +107,10 @@ rbg_result rbg_player(rbg_state *state, uint32_t *player);
 /* How many moves can be undone. */
 rbg_result rbg_moves_made(rbg_state *state, uint64_t *made);
 
-/* The key of the place: 64 bits that are equal for equal places, and hardly ever for others. `rbg ask` prints the same. */
+/* The key of the place: 64 bits that are equal for equal places, and hardly ever for others. `rbg ask` prints the same. It
+   is made of the current vertex and the last action too. If a player's turn always has the same rules, and these go to any
+   square before they look at one, then the player, the board and the values are enough for a table of transpositions, and
+   are met again more often. */
 rbg_result rbg_key(rbg_state *state, uint64_t *key);
 
 /* The place as bytes: all that the rules know of it, and nothing of the way there. They begin with 1. Two bytes each, the
@@ -159,7 +165,8 @@ rbg_result rbg_moves(rbg_state *state, uint32_t *numbers, size_t room, uint64_t 
 /* The pairs of the move of this index, from 0, among those that were found. */
 rbg_result rbg_move(rbg_state *state, uint64_t index, rbg_pair *pairs, size_t room, uint64_t *needed);
 
-/* Makes the move of this index, and the keeper's moves after it. */
+/* Makes the move of this index, and the keeper's moves after it. RBG_ILLEGAL if there is none, or if no moves were found
+   since the last one was made or undone; those that were found don't go along into a copy. */
 rbg_result rbg_make_found(rbg_state *state, uint64_t index);
 
 /* Makes the move of these pairs, if it is legal, and the keeper's moves after it. */

@@ -209,6 +209,14 @@ static rbg_result call(rbg_state *state, rbg_state *other) {
   case 1:
     if (chance(4) == 0)
       rbg_free(state);
+    else { /* a handle is moved, and moved back */
+      rbg_result before = rbg_key(state, &key);
+      rbg_state moved = *state;
+      *state = (rbg_state)RBG_NO_STATE;
+      check(rbg_key(state, &count) == RBG_EMPTY, "a handle that was moved away");
+      check(rbg_key(&moved, &count) == before && (before != RBG_OK || count == key), "a handle that was moved");
+      *state = moved;
+    }
     return RBG_OK;
   case 2:
     return state == other ? RBG_OK : rbg_copy(state, other);

@@ -1,9 +1,11 @@
-// States of games in C++, over the library of rbg.h. Each class lets go what it holds.
+// States of games in C++17, over the library of rbg.h. Each class lets go what it holds. It compiles so:
+//   g++ -std=c++17 -Iinclude -Iclients/cpp program.cpp librbg.a -o program
 #ifndef RBG_HPP
 #define RBG_HPP
 
 #include <rbg.h>
 
+#include <algorithm>
 #include <stdexcept>
 #include <string>
 #include <utility>
@@ -11,10 +13,32 @@
 
 namespace rbg {
 
+/// The name of an answer of rbg.h in a few words.
+inline std::string word_of(rbg_result result) {
+  switch (result) {
+  case RBG_OK: return "done";
+  case RBG_EMPTY: return "empty: the handle holds no state";
+  case RBG_MEMORY: return "memory: a request was refused";
+  case RBG_OVER: return "over: above the limits of the language";
+  case RBG_KEEPER: return "keeper: its moves don't end";
+  case RBG_ILLEGAL: return "illegal: no legal move, or none that was found";
+  case RBG_START: return "start: there is no move to undo";
+  case RBG_SMALL: return "small: a buffer has too little room";
+  case RBG_RANGE: return "range: a number is out of its range";
+  case RBG_NO_PLACE: return "place: these are the bytes of none";
+  case RBG_TEXT: return "text: a description has bytes that may not be there";
+  case RBG_MACRO: return "macro: a description's macros are wrong";
+  case RBG_SYNTAX: return "syntax: a description is spelt wrong";
+  case RBG_GAME: return "game: a description is no game's";
+  default: return "another answer";
+  }
+}
+
 /// What a call answers that wasn't done: one of the numbers of rbg.h, as RBG_ILLEGAL.
 class Refused : public std::runtime_error {
 public:
-  explicit Refused(rbg_result result) : std::runtime_error("rbg answers " + std::to_string(result)), number(result) {}
+  explicit Refused(rbg_result result)
+      : std::runtime_error("rbg answers " + std::to_string(result) + ", " + word_of(result)), number(result) {}
   rbg_result number;
 };
 
@@ -33,14 +57,24 @@ inline std::string text_of(const Move &move) {
   return text;
 }
 
-/// The move of a text, as in messages.
+/// The move of a text, as in messages: 1 to 200 pairs, of numbers with at most nine digits and no zero before them, with one
+/// space between. A text that is spelt in another way is no move: RBG_ILLEGAL.
 inline Move move_of(const std::string &text) {
-  Move move;
-  const char *at = text.c_str();
-  for (char *end = nullptr; *at; at = end) {
-    auto vertex = static_cast<uint32_t>(std::strtoul(at, &end, 10));
-    move.push_back({vertex, static_cast<uint32_t>(std::strtoul(end, &end, 10))});
+  std::vector<uint32_t> numbers(1, 0);
+  size_t digits = 0;
+  for (char at : text) {
+    uint32_t &number = numbers.back();
+    if (at == ' ' && digits > 0) {
+      numbers.push_back(0), digits = 0;
+    } else if (at >= '0' && at <= '9' && digits < 9 && (digits == 0 || number > 0)) {
+      number = 10 * number + static_cast<uint32_t>(at - '0'), digits++;
+    } else {
+      throw Refused(RBG_ILLEGAL);
+    }
   }
+  if (digits == 0 || numbers.size() % 2 || numbers.size() > 2 * RBG_MOST_PAIRS) throw Refused(RBG_ILLEGAL);
+  Move move;
+  for (size_t i = 0; i < numbers.size(); i += 2) move.push_back({numbers[i], numbers[i + 1]});
   return move;
 }
 
@@ -68,7 +102,8 @@ struct Ending {
   uint64_t matches;
 };
 
-/// A state of play. It can be copied: the copy can't undo the moves of before. It is used by one thread.
+/// A state of play. It can be copied: no move can be undone in the copy, and none is found there yet. It is used by one thread:
+/// another one opens the game too, and unpacks there what was packed here. A state that was moved from holds none.
 class State {
 public:
   State() = default;
@@ -97,7 +132,9 @@ public:
   /// The player to move, from 1; 0 is the keeper, or nobody.
   uint32_t player() const { return number(rbg_player); }
 
-  /// A number that is the same for equal places, and hardly ever for others.
+  /// A number that is the same for equal places, and hardly ever for others. The current vertex and the last action are part of
+  /// it: where a player's turn always has the same rules, and these go to any square before they look at one, a table of
+  /// transpositions is better kept by the player, the board and the values.
   uint64_t key() const { return number(rbg_key); }
 
   /// The place as bytes, and the state at the place of such bytes in the game of this one.
@@ -157,7 +194,8 @@ public:
   /// All legal moves, in the order of their indices.
   std::vector<Move> moves() const { return moves_of(items<uint32_t>(rbg_moves, at())); }
 
-  /// Makes the move of this index, or these pairs, and the keeper's moves after it.
+  /// Makes the move of this index, or these pairs, and the keeper's moves after it. RBG_ILLEGAL by an index also means that no
+  /// moves were found since the last one was made or undone.
   void make(uint64_t index) { must(rbg_make_found(&held, index)); }
   void make(const Move &move) { must(rbg_make(&held, pairs(move), move.size())); }
 
@@ -167,11 +205,17 @@ public:
   /// Undoes the last move of a player.
   void undo() { must(rbg_undo(&held)); }
 
-  /// How this many random matches from here end. Those that are stopped after 10,000 moves aren't among them.
-  std::vector<Ending> playouts(uint64_t seed, uint64_t count = 1) {
+  /// How this many random matches from here end, 1 to 1,000,000. Those that are stopped after 10,000 moves aren't among them.
+  std::vector<Ending> playouts(uint64_t seed, uint64_t count = 1) const {
     uint64_t needed = 0, width = scores().size() + 1;
-    std::vector<uint64_t> rows(width * count);
-    must(rbg_playouts(&held, seed, count, rows.data(), rows.size(), &needed));
+    // matches end in few ways: if there is too little room for these, they are played again
+    std::vector<uint64_t> rows(width * std::clamp<uint64_t>(count, 1, 64));
+    rbg_result result = rbg_playouts(at(), seed, count, rows.data(), rows.size(), &needed);
+    if (result == RBG_SMALL) {
+      rows.resize(needed);
+      result = rbg_playouts(at(), seed, count, rows.data(), rows.size(), &needed);
+    }
+    must(result);
     std::vector<Ending> endings;
     for (uint64_t row = 0; row < needed; row += width)
       endings.push_back({{&rows[row] + 1, &rows[row] + width}, rows[row]});
@@ -196,10 +240,10 @@ public:
   }
 
 private:
-  rbg_state held = RBG_NO_STATE;
-
   // The calls that leave a state as it is take it without `const`, since they look into it by moving it.
-  rbg_state *at() const { return const_cast<rbg_state *>(&held); }
+  mutable rbg_state held = RBG_NO_STATE;
+
+  rbg_state *at() const { return &held; }
 
   static std::vector<Move> moves_of(const std::vector<uint32_t> &numbers) {
     std::vector<Move> found;

@@ -5,4 +5,5 @@ fn main() {
     let folder = std::env::var("RBG_LIB").unwrap_or(beside.to_string());
     println!("cargo:rustc-link-search=native={folder}");
     println!("cargo:rerun-if-env-changed=RBG_LIB");
+    println!("cargo:rerun-if-changed={folder}/librbg.a");
 }

@@ -2,7 +2,7 @@
 //!     player PORT [MILLISECONDS [SEED [MATCH]]]
 //! It thinks for so long about a move, and no longer than half of what is left of its turn.
 
-use rbg::{Pair, State};
+use rbg::{pairs_of, text_of, Pair, State};
 use std::error::Error;
 use std::io::{ErrorKind, Read, Write};
 use std::net::TcpStream;
@@ -37,13 +37,13 @@ struct Node {
 }
 
 impl Node {
-    fn at(mut state: State, search: &mut Search) -> Result<Node> {
+    fn at(state: State, search: &mut Search) -> Result<Node> {
         let (player, moves) = (state.player()?, state.count()?);
         let first = search.chance() % moves.max(1);
         Ok(Node { state, player, moves, first, children: Vec::new(), visits: 0.0, total: 0.0 })
     }
 
-    fn move_to(&mut self, child: usize) -> Result<Vec<Pair>> {
+    fn move_to(&self, child: usize) -> Result<Vec<Pair>> {
         Ok(self.state.legal((self.first + child as u64) % self.moves)?)
     }
 
@@ -91,16 +91,6 @@ impl Node {
     }
 }
 
-fn pairs_of(text: &str) -> Result<Vec<Pair>> {
-    let numbers = text.split(' ').map(str::parse).collect::<std::result::Result<Vec<u32>, _>>()?;
-    Ok(numbers.chunks(2).map(|pair| Pair { vertex: pair[0], position: pair[1] }).collect())
-}
-
-fn text_of(pairs: &[Pair]) -> String {
-    let texts: Vec<String> = pairs.iter().map(|pair| format!("{} {}", pair.vertex, pair.position)).collect();
-    format!("M{}\0", texts.join(" "))
-}
-
 /// Plays a match to its end, and returns the last message.
 fn play(mut stream: TcpStream, think: Duration, mut search: Search) -> Result<String> {
     let (mut bytes, mut piece) = (Vec::new(), vec![0; 65536]);
@@ -117,7 +107,7 @@ fn play(mut stream: TcpStream, think: Duration, mut search: Search) -> Result<St
                     let mut root = Node::at(State::copy(state)?, &mut search)?;
                     if root.player == me && root.moves > 0 {
                         let until = Instant::now() + think.min(turn.saturating_sub(began.elapsed()) / 2);
-                        stream.write_all(text_of(&root.choose(until, &mut search)?).as_bytes())?;
+                        stream.write_all(format!("M{}\0", text_of(&root.choose(until, &mut search)?)).as_bytes())?;
                     }
                     (quiet, owes) = (Duration::from_millis(1), false);
                 }

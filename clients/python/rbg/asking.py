@@ -12,10 +12,10 @@
 """
 
 import tempfile
-from typing import Optional
+from typing import Any, Optional
 
 from rbg.backend import Answer, Backend, Question, Refused
-from rbg.places import Ending, Move, Place, Shape, Tried, tried
+from rbg.places import Ending, Move, Place, Shape, Tried, spelt, tried
 
 
 def endings_of(answer: Answer) -> list[Ending]:
@@ -73,7 +73,7 @@ class AskedGround:
 
     def hear(self, move: Move) -> None:
         """Follows a move as a referee passes it on. Places of before can't be asked any more."""
-        self.ask_at(self.root, self.made, ["heard " + move])
+        self.ask_at(self.root, self.made, ["heard " + spelt(move)])
         self.made = []
         self.heard += 1
 
@@ -94,8 +94,8 @@ class AskedGround:
         """The answers after these moves from a root. What has to be undone and made is asked in the same write."""
         if root != self.root:
             [[standing]] = self.session.ask(["unpack " + root])
-            if standing[0] == "error":
-                raise Refused(standing[1], "unpack")
+            if standing[0] == "error":  # digits that are no line's are no place's either
+                raise Refused("place" if standing[1] in ("form", "long") else standing[1], "unpack")
             self.root, self.made = root, []
         same = 0
         for one, other in zip(self.made, history):
@@ -106,16 +106,21 @@ class AskedGround:
         way = ["back %d" % undone] if undone else []
         way += ["make " + move for move in history[same:]]
         answers = self.session.ask(way + questions)
-        if undone:
-            del self.made[same:]
-        for move, answer in zip(history[same:], answers[len(way) - (len(history) - same) :]):
-            if answer[0][0] == "error":
-                break
-            self.made.append(move)
+        for question, answer in zip(way + questions, answers):
+            if answer[0][0] != "error":
+                self.follow(question)
         for question, answer in zip(way + questions, answers):
             if answer[0][0] == "error":
                 raise Refused(answer[0][1], question)
         return answers[len(way) :]
+
+    def follow(self, question: Question) -> None:
+        """Keeps where the session stands after a question that it has answered."""
+        word, _, rest = question.partition(" ")
+        if word == "make":
+            self.made.append(rest)
+        elif word == "back":
+            del self.made[len(self.made) - int(rest or 1) :]
 
 
 class AskedPlace:
@@ -127,8 +132,18 @@ class AskedPlace:
     def ask(self, *questions: Question) -> list[Answer]:
         """The answers to questions about this place."""
         if self.after != self.ground.heard:
-            raise ValueError("the game has heard moves since")
+            raise Refused("heard")
         return self.ground.ask_at(self.root, self.history, list(questions))
+
+    def facts(self, name: str) -> dict[str, Any]:
+        """Facts about it, by the names of `Place`: the one that is asked for, and those that come with it."""
+        try:
+            return self.look()._asdict()
+        except Refused as refused:
+            if refused.word != "over" or name not in ("key", "board", "values"):
+                raise
+        [[[_, *numbers]]] = self.ask(name)  # it can be read where finding all moves is above the limits
+        return {name: int(numbers[0]) if name == "key" else list(map(int, numbers))}
 
     def look(self) -> Place:
         """All that is known of it."""
@@ -152,7 +167,7 @@ class AskedPlace:
     def make(self, move: Move) -> None:
         """Makes a move, and the keeper's moves after it."""
         before = self.history
-        self.history = before + [move]
+        self.history = before + [spelt(move)]
         try:
             self.ask()
         except Refused:
@@ -190,8 +205,8 @@ class AskedPlace:
     def try_out(self, moves: list[Move], count: int, seed: int, players: int) -> list[Tried]:
         """Plays this many random matches after each of these moves. All is asked at once."""
         questions: list[Question] = []
-        for index, move in enumerate(moves):
-            questions += ["make " + move, "random %d %d" % ((seed + index) % 2**64, count), "back"]
+        for move in moves:
+            questions += ["make " + spelt(move), "random %d %d" % (seed, count), "back"]
         answers = self.ask(*questions)
         found = []
         for index, move in enumerate(moves):

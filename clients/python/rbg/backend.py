@@ -8,6 +8,7 @@
 """
 
 import os
+import re
 import shutil
 import subprocess
 import weakref
@@ -17,11 +18,20 @@ Answer = list[list[str]]  # the words of each line
 Question = str
 
 TOGETHER = 32_768  # this many bytes of questions are asked at once, at most: more could fill both pipes
+LINE = re.compile("[ -~]*")  # what a line of a question can have
+KEEPERS = 1000  # after so many first moves of the keeper no session begins
 
 
 class Refused(Exception):
-    """A question that isn't answered. `word` says why: `illegal`, `start`, `place`, `over`, `keeper`,
-    `memory`, `long`, `empty`, `return`, `word`, `form`."""
+    """What isn't done. `word` says why, over the library as over `rbg ask`:
+
+    - `text`, `macro`, `syntax`, `game`: the description is no game's, and this layer says so
+    - `illegal`, `start`, `place`: no legal move; no move to undo; bytes of no place of the game
+    - `form`: a move isn't spelt as in messages, or a number is out of its range
+    - `over`, `keeper`, `memory`: above the limits of play; the keeper's moves don't end; memory failed
+    - `closed`, `heard`: the game was closed; it has heard moves since the state was made
+    - `long`, `empty`, `return`, `word`: a line that `rbg ask` doesn't read; `small`: a buffer of the library
+    """
 
     def __init__(self, word: str, question: Question = ""):
         super().__init__(f"{word}: {question}" if question else word)
@@ -29,11 +39,19 @@ class Refused(Exception):
 
 
 def find_program(program: Optional[str] = None, name: str = "rbg") -> str:
-    """The program of this name: the one that is given, that of the variable RBG, `./rbg`, or the one on the path."""
-    for candidate in (program, os.environ.get(name.upper()), f"./{name}", shutil.which(name)):
-        if candidate and os.path.exists(candidate):
-            return candidate
-    raise FileNotFoundError(f"no program {name}: give its path, or set {name.upper()}")
+    """The program of this name: the one that is given, that of the variable RBG, `./rbg`, or the one on the path. One that is
+    named has to be there.
+
+    >>> find_program("/nowhere/rbg")
+    Traceback (most recent call last):
+    FileNotFoundError: no program /nowhere/rbg
+    """
+    named = os.fspath(program) if program else os.environ.get(name.upper())
+    for candidate in [named] if named else [f"./{name}", name]:
+        found = shutil.which(candidate)
+        if found is not None:
+            return found
+    raise FileNotFoundError(f"no program {named}" if named else f"no program {name}: give its path, or set {name.upper()}")
 
 
 def end(process: "subprocess.Popen[bytes]") -> None:
@@ -56,7 +74,8 @@ class Backend:
 
     def __init__(self, file: str, program: Optional[str] = None):
         pipe = subprocess.PIPE
-        self.process = subprocess.Popen([find_program(program), "ask", file], stdin=pipe, stdout=pipe)
+        self.file, self.program = file, find_program(program)
+        self.process = subprocess.Popen([self.program, "ask", file], stdin=pipe, stdout=pipe)
         self.close = weakref.finalize(self, end, self.process)
 
     def __enter__(self) -> "Backend":
@@ -66,11 +85,24 @@ class Backend:
         self.close()
 
     def ask(self, questions: Iterable[Question]) -> list[Answer]:
-        """The answers to questions, which are asked together. Of one that is refused the answer begins with `error`."""
+        """The answers to questions, which are asked together. Of one that is refused the answer begins with `error`. None is
+        asked if one of them is more than a line, or ends the session.
+
+        >>> with Backend("crates/rbg_games/data/tictactoe.rbg") as session:
+        ...     try:
+        ...         session.ask(["make 4 9 4 10", "place\\nkey"])
+        ...     except Refused as refused:
+        ...         print(refused, session.ask(["place"]))
+        form: 'place\\nkey' [[['player', '1']]]
+        """
         answers: list[Answer] = []
         asked: list[Question] = []
         size = 0
-        for question in questions:
+        all_of_them = list(questions)
+        for question in all_of_them:
+            if not LINE.fullmatch(question) or question == "quit":
+                raise Refused("form", repr(question))
+        for question in all_of_them:
             if asked and size + len(question) >= TOGETHER:
                 answers += self.ask_at_once(asked)
                 asked, size = [], 0
@@ -79,14 +111,24 @@ class Backend:
         return answers + self.ask_at_once(asked) if asked else answers
 
     def ask_at_once(self, questions: list[Question]) -> list[Answer]:
-        """The answers to a few questions, in one write."""
+        """The answers to a few questions, in one write. A session with an answer that wasn't read is ended: it would be taken
+        for a later one."""
+        if not self.close.alive:
+            raise Refused("closed")
         assert self.process.stdin is not None
-        self.process.stdin.write("".join(question + "\n" for question in questions).encode("ascii"))
-        self.process.stdin.flush()
-        return [self.answer() for _ in questions]
+        try:
+            try:
+                self.process.stdin.write("".join(question + "\n" for question in questions).encode("ascii"))
+                self.process.stdin.flush()
+            except BrokenPipeError:
+                pass  # it has ended, and what it said last says why
+            return [self.answer() for _ in questions]
+        except BaseException:
+            self.close()
+            raise
 
     def answer(self) -> Answer:
-        """The lines of the next answer."""
+        """The lines of the next answer. A session about a text that is no game's says so in place of the first one."""
         first = self.line()
         lines = [first]
         word = first[0]
@@ -103,9 +145,20 @@ class Backend:
             while left > 0:
                 lines.append(self.line())
                 left -= int(lines[-1][-1])
+        elif word == "refused":
+            raise Refused(first[1], " ".join(first[2:]))
         elif word == "over":
-            raise Refused("over")
+            raise Refused("keeper" if self.keeper_goes_on() else "over", "the first place")
+        elif word == "memory":
+            raise Refused("memory")
+        elif word == "device":
+            raise OSError(f"rbg can't read {self.file}")
         return lines
+
+    def keeper_goes_on(self) -> bool:
+        """Whether no session begins since the keeper's first moves don't end."""
+        made = subprocess.run([self.program, "moves", self.file], stdout=subprocess.PIPE).stdout
+        return made.count(b"made ") >= KEEPERS
 
     def line(self) -> list[str]:
         """The words of the next line."""

@@ -22,33 +22,36 @@ True True
 
 import os
 from pathlib import Path
-from typing import Optional, Union
+from typing import Any, NoReturn, Optional, Union
 
 from rbg.asking import AskedGround, AskedPlace
 from rbg.backend import Refused
 from rbg.library import Library, find_library
 from rbg.loaded import LoadedGround, LoadedPlace
 from rbg.spelling import Spelling
-from rbg.places import Ending, Move, Place, Shape, Tried
+from rbg.places import MOST, SEEDS, Ending, Move, Place, Shape, Tried, within
+
+LAST_ACTION = slice(3, 7)  # the bytes of a packed place that have the current vertex and the last action
 
 
 class Game:
     """A game. It is used by one thread.
 
     It uses the library, if one is found: `library` is its path, or False for none. Else it uses a session of
-    the program `rbg`, whose path is `program`.
+    the program `rbg`, whose path is `program`. A file that is named has to be there. A text that is no game's is `Refused`
+    by the layer that says so.
     """
 
     def __init__(self, text: bytes, file: Optional[str] = None, program: Optional[str] = None, library: Union[str, bool, None] = None):
-        self.text, self.program = text, program
-        self.ground: Union[AskedGround, LoadedGround]
-        path = None if library is False else find_library(library if isinstance(library, str) else None)
+        self.text, self.program, self.is_closed = text, program, False
+        self.opened: Union[AskedGround, LoadedGround]
+        path = None if library is False else find_library(None if library in (None, True) else os.fspath(library))
         if path is not None:
-            self.ground = LoadedGround(Library.load(path), text)
+            self.opened = LoadedGround(Library.load(path), text)
         else:
-            self.ground = AskedGround(file, program, text)
-        self.players, self.pieces, self.variables = self.ground.names()
-        self.heard: list[Move] = []  # the moves that were heard, the keeper's too
+            self.opened = AskedGround(file, program, text)
+        self.names = self.opened.names()
+        self.moves_heard: list[Move] = []
         self.spellings: Optional[Spelling] = None
 
     @classmethod
@@ -70,21 +73,51 @@ class Game:
         self.close()
 
     def close(self) -> None:
-        """Ends the session, if there is one."""
-        self.ground.close()
+        """Ends the session, if there is one. Neither the game nor its states are asked any more: that is `Refused` by
+        `closed`."""
+        self.is_closed = True
+        self.opened.close()
+
+    @property
+    def ground(self) -> Union[AskedGround, LoadedGround]:
+        """What is asked, over the library or the session."""
+        if self.is_closed:
+            raise Refused("closed")
+        return self.opened
+
+    @property
+    def players(self) -> list[str]:
+        """The names of the players. Player 1 is the first of them."""
+        return self.names[0]
+
+    @property
+    def pieces(self) -> list[str]:
+        """The names of the pieces, by the numbers that `State.board` has."""
+        return self.names[1]
+
+    @property
+    def variables(self) -> list[str]:
+        """The names of the variables, of which the first are the players."""
+        return self.names[2]
+
+    @property
+    def heard(self) -> list[Move]:
+        """The moves that were heard, the keeper's too."""
+        return self.moves_heard
 
     def state(self) -> "State":
         """The place of play: where it begins, or after the moves that were heard."""
-        return State(self, [], self.ground.place())
+        return State(self, [], self.ground.place(), len(self.heard))
 
     def hear(self, move: Move) -> None:
-        """Follows a move as a referee passes it on, the keeper's too. States of before may not be asked any more."""
+        """Follows a move as a referee passes it on, the keeper's too. States of before aren't asked any more, but for those
+        that were unpacked: that is `Refused` by `heard`."""
         self.ground.hear(move)
         self.heard.append(move)
 
     def unpack(self, packed: bytes) -> "State":
         """The state of such bytes as `State.pack` gives. No move can be undone in it, and play may never reach it."""
-        return State(self, [], self.ground.unpack(packed))
+        return State(self, [], self.ground.unpack(packed), None)
 
     @property
     def shape(self) -> Shape:
@@ -101,73 +134,113 @@ class Game:
 class State:
     """A state of play. Equal states have the same board, values, player, current vertex and place in the rules."""
 
-    def __init__(self, game: Game, history: list[Move], stands: Union[AskedPlace, LoadedPlace]):
-        self.game, self.history, self.stands = game, history, stands
-        self.known: Optional[Place] = None
+    def __init__(self, game: Game, history: list[Move], at: Union[AskedPlace, LoadedPlace], after: Optional[int]):
+        self.game, self.made, self.at = game, history, at
+        self.after = after  # how many moves the game had heard; None if that doesn't matter
+        self.known: dict[str, Any] = {}  # facts by the names of `Place`
+
+    @property
+    def stands(self) -> Union[AskedPlace, LoadedPlace]:
+        """What is asked, over the library or the session."""
+        if self.game.is_closed:
+            raise Refused("closed")
+        if self.after not in (None, len(self.game.heard)):
+            raise Refused("heard")
+        return self.at
+
+    def fact(self, name: str) -> Any:
+        """A fact by its name in `Place`."""
+        return self.read(name, self.stands)
+
+    def read(self, name: str, at: Union[AskedPlace, LoadedPlace]) -> Any:
+        """A fact that is asked once."""
+        if name not in self.known:
+            self.known.update(at.facts(name))
+        return self.known[name]
+
+    @property
+    def history(self) -> list[Move]:
+        """The moves of the players that led here from where the state was taken from the game."""
+        return self.made
 
     @property
     def place(self) -> Place:
-        """All that is known of it, asked once."""
-        if self.known is None:
-            self.known = self.stands.look()
-        return self.known
+        """All that is known of it."""
+        return Place(*map(self.fact, Place._fields))
 
     @property
     def player(self) -> int:
         """The number of the player to move, from 1; 0 if play is over."""
-        return self.place.player
+        return self.fact("player")
 
     @property
     def is_over(self) -> bool:
         """Whether nobody has a legal move."""
-        return self.place.scores is not None
+        return self.scores is not None
 
     @property
     def scores(self) -> Optional[list[int]]:
         """The scores if play is over."""
-        return self.place.scores
+        return self.fact("scores")
 
     @property
     def key(self) -> int:
-        """A number of 64 bits that is the same for equal states, and hardly ever for others."""
-        return self.place.key
+        """A number of 64 bits that is the same for equal states, and hardly ever for others. The current vertex and the last
+        action are part of it, so states that only differ by the way there have other keys: see `position_key`."""
+        return self.fact("key")
+
+    @property
+    def position_key(self) -> bytes:
+        """Bytes that are the same exactly if the player, the board and the values are: a key for a table of transpositions. It
+        is enough where a player's turn always has the same rules, and these go to any square before they look at one."""
+        packed = self.pack()
+        return packed[: LAST_ACTION.start] + packed[LAST_ACTION.stop :]
 
     @property
     def board(self) -> list[int]:
         """The number of the piece on each vertex."""
-        return self.place.board
+        return self.fact("board")
 
     @property
     def values(self) -> dict[str, int]:
         """What the variables hold, by name. The first are the players."""
-        return dict(zip(self.game.variables, self.place.values))
+        return dict(zip(self.game.variables, self.fact("values")))
 
     def moves(self, most: Optional[int] = None) -> list[Move]:
-        """The legal moves, or `most` of them if there are more."""
-        return self.stands.moves(most)
+        """The legal moves, or `most` of them if there are more: 1 to 1,000,000."""
+        return self.stands.moves(None if most is None else within(most, 1, MOST))
 
     def make(self, move: Move) -> "State":
         """Makes a move, and the keeper's moves after it, in this state, which it returns."""
         self.stands.make(move)
-        self.history = self.history + [move]
-        self.known = None
+        self.made, self.known = self.made + [move], {}
         return self
 
     def undo(self, moves: int = 1) -> "State":
         """Undoes moves, in this state, which it returns."""
-        if not 0 <= moves <= len(self.history):
+        stands = self.stands
+        if not 0 <= moves <= len(self.made):
             raise Refused("start")
         if moves:
-            self.history = self.history[: len(self.history) - moves]
-            self.stands.undo(moves, self.history)
-            self.known = None
+            left = self.made[: len(self.made) - moves]
+            stands.undo(moves, left)
+            self.made, self.known = left, {}
         return self
 
     def copy(self) -> "State":
         """A state of its own at the place of this one."""
-        copy = State(self.game, self.history, self.stands.copy())
-        copy.known = self.known
+        copy = State(self.game, self.made, self.stands.copy(), self.after)
+        copy.known = dict(self.known)
         return copy
+
+    def __copy__(self) -> "State":
+        return self.copy()
+
+    def __deepcopy__(self, memo: object) -> "State":
+        return self.copy()
+
+    def __reduce__(self) -> NoReturn:
+        raise TypeError("a state isn't pickled: State.pack gives its bytes, and Game.unpack reads them")
 
     def pack(self) -> bytes:
         """The state as bytes, which `Game.unpack` reads. They have nothing of the moves that led there: states are equal
@@ -175,28 +248,36 @@ class State:
         return self.stands.pack()
 
     def playouts(self, count: int = 1, seed: int = 0) -> list[Ending]:
-        """How this many random matches from here end."""
-        return self.stands.playouts(count, seed)
+        """How this many random matches from here end, 1 to 1,000,000. The seed is below 2 ** 64, and always gives the same
+        ones, those of `random` of `rbg ask`."""
+        return self.stands.playouts(within(count, 1, MOST), within(seed, 0, SEEDS - 1))
 
     def sample(self, most: int, seed: int = 0) -> "State":
         """A state of its own, in which at most this many random moves were made, 1 to 1,000,000, and fewer only if play is
         over. Its history ends with them, and they can be undone. The seed is below 2 ** 64."""
-        stands, moves = self.stands.sample(most, seed)
-        return State(self.game, self.history + moves, stands)
+        stands, moves = self.stands.sample(within(most, 1, MOST), within(seed, 0, SEEDS - 1))
+        return State(self.game, self.made + moves, stands, self.after)
 
     def search(self, count: int, seed: int = 0, moves: Optional[list[Move]] = None) -> list[Tried]:
-        """Tries out these moves, or all that are legal: this many random matches after each."""
-        return self.stands.try_out(self.moves() if moves is None else moves, count, seed, len(self.game.players))
+        """Tries out these moves, or all that are legal: this many random matches after each, 1 to 1,000,000. As in `search` of
+        `rbg ask` the seed, which is below 2 ** 64, is the same after each move."""
+        tried = self.moves() if moves is None else moves
+        return self.stands.try_out(tried, within(count, 1, MOST), within(seed, 0, SEEDS - 1), len(self.game.players))
 
     def spell(self, move: Move) -> str:
         """A move of it for people."""
         return self.game.spell(move)
 
     def __eq__(self, other: object) -> bool:
-        return isinstance(other, State) and self.game is other.game and self.place == other.place
+        if not isinstance(other, State) or self.game is not other.game:
+            return False
+        return all(self.read(name, self.at) == other.read(name, other.at) for name in ("key", "board", "values"))
 
     def __hash__(self) -> int:
-        return self.key
+        return int(self.read("key", self.at))
 
     def __repr__(self) -> str:
-        return f"<{len(self.history)} moves, board {self.board}>"
+        try:
+            return f"<{len(self.made)} moves, board {self.read('board', self.at)}>"
+        except Refused as refused:
+            return f"<{len(self.made)} moves, {refused.word}>"

@@ -24,15 +24,15 @@ from functools import lru_cache
 from typing import Any, Callable, Optional
 
 from rbg.backend import Refused
-from rbg.places import Shape
+from rbg.places import MOST, Shape, spelt
 
 WORDS = {
     1: "empty", 2: "memory", 3: "over", 4: "keeper", 5: "illegal", 6: "start", 7: "small", 8: "form", 9: "place",
     16: "text", 17: "macro", 18: "syntax", 19: "game",
 }  # fmt: skip
 SMALL = 7
+LAYERS = 16  # an answer from here on is a layer's, which refuses a description
 KEPT = 1 << 16  # so many spellings of moves are kept
-MOST = 1_000_000  # so many random matches or moves a call makes, at most
 PLAYERS, PIECES, VARIABLES, DIRECTIONS = range(4)
 ROOM = 4096  # so many numbers of moves have room at first
 FIRST = 0 if sys.byteorder == "little" else 3  # the byte of a number that has all of it, if it is below 256
@@ -76,10 +76,19 @@ CALLS: dict[str, list[Any]] = {
 
 def find_library(path: Optional[str] = None) -> Optional[str]:
     """The library: the one that is given, that of the variable RBG_LIBRARY, of which an empty one means none, `./librbg.so`,
-    or the system's."""
+    or the system's. One that is named has to be there.
+
+    >>> find_library("/nowhere/librbg.so")
+    Traceback (most recent call last):
+    FileNotFoundError: no library /nowhere/librbg.so
+    """
     named = path if path is not None else os.environ.get("RBG_LIBRARY")
+    if named == "":
+        return None
     if named is not None:
-        return os.path.abspath(named) if os.path.exists(named) else None
+        if not os.path.isfile(named):
+            raise FileNotFoundError(f"no library {named}")
+        return os.path.abspath(named)
     return os.path.abspath("librbg.so") if os.path.exists("librbg.so") else ctypes.util.find_library("rbg")
 
 
@@ -128,7 +137,11 @@ class Library:
 
     def opened(self, name: str, text: bytes) -> "Held":
         held = Held(self)
-        held.answer(name, getattr(self.calls, name)(array_of(text), len(text), held.here))
+        result = getattr(self.calls, name)(array_of(text), len(text), held.here)
+        if result >= LAYERS:
+            _, number, offset = self.fault(text)
+            raise Refused(WORDS[result], f"{number}" if offset is None else f"{number} at byte {offset}")
+        held.answer(name, result)
         return held
 
 
@@ -382,11 +395,6 @@ def pairs_of(move: str) -> tuple[Any, int, bytes]:
     >>> [TEXTS[pairs] for pairs in sorted(moves, key=ORDERS.__getitem__)]
     ['4 9', '4 9 4 10', '4 300']
     """
-    try:
-        numbers = list(map(int, move.split()))
-    except ValueError:
-        raise Refused("form", move) from None
-    if len(numbers) % 2 or not all(0 <= number < 2**32 for number in numbers):
-        raise Refused("form", move)
-    array = (c_uint32 * max(1, len(numbers)))(*numbers)
-    return array, len(numbers) // 2, bytes(array)[: 4 * len(numbers)]
+    numbers = list(map(int, spelt(move).split(" ")))
+    array = (c_uint32 * len(numbers))(*numbers)
+    return array, len(numbers) // 2, bytes(array)

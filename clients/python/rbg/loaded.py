@@ -14,7 +14,7 @@
 (9, 10)
 """
 
-from typing import Optional
+from typing import Any, Optional
 
 from rbg.library import PIECES, PLAYERS, VARIABLES, Held, Library, find_library
 from rbg.places import Ending, Move, Place, Shape, Tried, tried
@@ -64,17 +64,18 @@ class LoadedPlace:
     def __init__(self, root: Held, held: Held):
         self.root, self.held = root, held
 
+    def facts(self, name: str) -> dict[str, Any]:
+        """Facts about it, by the names of `Place`: the one that is asked for, and those that come with it."""
+        held = self.held
+        if name in ("key", "board", "values"):
+            return {name: getattr(held, name)}
+        moves = held.count()
+        return {"player": held.player if moves else 0, "scores": None if moves else held.scores, "moves": moves}
+
     def look(self) -> Place:
         """All that is known of it."""
-        held, moves = self.held, self.held.count()
-        return Place(
-            player=held.player if moves else 0,
-            scores=None if moves else held.scores,
-            moves=moves,
-            key=held.key,
-            board=held.board,
-            values=held.values,
-        )
+        alone = {name: found for name in ("key", "board", "values") for found in self.facts(name).values()}
+        return Place(**self.facts("moves"), **alone)
 
     def moves(self, most: Optional[int]) -> list[Move]:
         """The legal moves, in the order of their pairs, or `most` of them if there are more."""
@@ -115,11 +116,11 @@ class LoadedPlace:
     def try_out(self, moves: list[Move], count: int, seed: int, players: int) -> list[Tried]:
         """Plays this many random matches after each of these moves."""
         found = []
-        for index, move in enumerate(moves):
+        for move in moves:
             after = self.held.copy()
             after.make(move)
             scores = None if after.count() else after.scores
-            endings = [] if scores is not None else endings_of(after, count, (seed + index) % 2**64)
+            endings = [] if scores is not None else endings_of(after, count, seed)
             found.append(tried(move, scores, endings, players))
         return found
 

@@ -1,8 +1,44 @@
-"""What is known of states: the same over the library and over `rbg ask`."""
+"""What is known of states, and what may be asked of them: the same over the library and over `rbg ask`."""
 
+import operator
+import re
 from typing import NamedTuple, Optional
 
+from rbg.backend import Refused
+
 Move = str  # the pairs of a vertex and a position, as in messages
+
+MOST = 1_000_000  # so many moves or random matches are asked for at once, at most
+SEEDS = 2**64  # a seed is below it
+PAIR = "(?:0|[1-9][0-9]{0,8}) (?:0|[1-9][0-9]{0,8})"
+SPELT = re.compile(f"{PAIR}(?: {PAIR}){{0,199}}")
+
+
+def spelt(move: Move) -> Move:
+    """A move, if it is spelt as in messages: each has one spelling.
+
+    >>> spelt("4 9 4 10")
+    '4 9 4 10'
+    >>> for move in ("04 9", "+4 9", "1_0 9", "4  9", "4 9 ", "4 9\\n", "4", "", "4 9999999999", "0 1 " * 200 + "0 1"):
+    ...     try:
+    ...         print(spelt(move))
+    ...     except Refused as refused:
+    ...         assert refused.word == "form"
+    """
+    if not SPELT.fullmatch(move):
+        raise Refused("form", repr(move))
+    return move
+
+
+def within(number: int, least: int, most: int) -> int:
+    """A whole number, if it is in this range.
+
+    >>> within(2**64 - 1, 0, SEEDS - 1) == SEEDS - 1
+    True
+    """
+    if not least <= operator.index(number) <= most:
+        raise Refused("form", f"{number} isn't {least} to {most}")
+    return operator.index(number)
 
 
 class Ending(NamedTuple):
@@ -14,7 +50,7 @@ class Ending(NamedTuple):
 
 class Tried(NamedTuple):
     """What became of a move that was tried out: how many matches were played after it, and the mean score of each player
-    in those that weren't stopped. If it ends play these are the scores, and no match was played."""
+    in those that weren't stopped, 0 if all were. If it ends play these are the scores, and no match was played."""
 
     move: Move
     matches: int

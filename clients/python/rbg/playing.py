@@ -39,7 +39,7 @@ class Outcome(NamedTuple):
     """How a match ended for a player."""
 
     player: int  # its number
-    end: Optional[str]  # the last message, as `E0 100 0`; None if there was none
+    end: Optional[str]  # the last message, as `E0 100 0`; None if the connection was lost, or a move was refused
     scores: Optional[list[int]]  # the scores, if play was finished
     refused: Optional[int]  # for which reason a move was refused, after which nothing more was said
 
@@ -156,7 +156,12 @@ def play(
     program: Optional[str] = None,
     library: Union[str, bool, None] = None,
 ) -> Outcome:
-    """Plays a match to its end. `match` is its number in a hall. A move is chosen only after all that has come is heard."""
+    """Plays a match to its end. `match` is its number in a hall. A move is chosen only after all that has come is heard.
+
+    The outcome's `end` is None if the connection was lost, or a move was refused. After a referee that was stopped goes on,
+    a new call hears the match from its first move, maybe in another seat. A player that is lost ends its match by `E3`, and no
+    call brings it back.
+    """
     stream, seat = Stream(host, port), Seat(program, library)
     if match is not None:
         stream.say("H%d" % match)

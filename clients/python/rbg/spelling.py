@@ -8,6 +8,7 @@ them.
 """
 
 import os
+import shutil
 import subprocess
 import tempfile
 from typing import Optional
@@ -26,7 +27,7 @@ class Spelling:
     def of(cls, text: bytes, program: Optional[str] = None) -> "Spelling":
         """The spelling of a description. It knows nothing if there is no program `rbg_author`."""
         spelling = cls()
-        beside = program and program + "_author"
+        beside = shutil.which(os.fspath(program) + "_author") if program else None
         try:
             author = find_program(beside, "rbg_author")
         except FileNotFoundError:

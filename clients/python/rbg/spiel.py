@@ -163,6 +163,12 @@ class SpielState:
     def clone(self) -> "SpielState":
         return SpielState(self.game, self.state.copy())
 
+    def __copy__(self) -> "SpielState":
+        return self.clone()
+
+    def __deepcopy__(self, memo: object) -> "SpielState":
+        return self.clone()
+
     def history(self) -> list[int]:
         return [self.game.actions.number(move) for move in self.state.history]
 
