@@ -18,7 +18,8 @@ use rbg_console::{Files, Status, WordsError, write_words};
 use rbg_hosting::{run_cut, run_hall_script, run_script};
 use rbg_network::Network;
 use rbg_operations::{
-    run_check, run_match, run_migrate, run_moves, run_moves_after, run_recorded, run_replay,
+    RecordedFiles, run_check, run_match, run_migrate, run_moves, run_moves_after, run_recorded,
+    run_replay,
 };
 use rbg_referee::run_referee;
 use std::alloc::Global;
@@ -76,7 +77,7 @@ fn obey<F: Files, N: Network, R: Read, W: Write>(
         Command::RefereeInput => run_referee(alloc, input, output),
         Command::Referee { file } => run_match(alloc, file, files, input, output),
         Command::Recorded { file, target } => {
-            run_recorded(alloc, file, target, files, input, output)
+            run_recorded(alloc, RecordedFiles { file, target }, files, input, output)
         }
         Command::Cut { file } => run_cut(alloc, file, files, input, output),
         Command::Replay { file, record_file } => {

@@ -29,7 +29,7 @@ pub use check::run_check;
 pub use lines::answer_form;
 pub use migrate::run_migrate;
 pub use moves::run_moves_after;
-pub use record_run::run_recorded;
+pub use record_run::{RecordedFiles, run_recorded};
 pub use recording::{Recorded, referee_recorded};
 pub use referee::run_match;
 pub use replay::run_replay;

@@ -3,11 +3,12 @@ use Rattle.std.proofs.Common.{◌≡◌, ◌↔◌, ℕ, false, List, [], refl, 
 use Rattle.std.proofs.lemmas.List.Elements.{All-contains}
 use Rattle.rbg_board.specs.Graph.{Graph}
 use Rattle.rbg_game.specs.Loading.{Loads}
+use Rattle.rbg_match.specs.History.{start_place}
 use Rattle.rbg_moves.specs.Listing.{IsListed}
 use Rattle.rbg_moves.specs.Settling.{Settles}
 use Rattle.rbg_rules.specs.Meaning.{AbstractGame, AbstractPlace, Expression, IsGame, IsLegal, IsPlaceOf}
 use Rattle.rbg_position.specs.Onward.{HaveSameRest, HaveSameThings, SameRest}
-use Rattle.rbg_position.specs.Positions.{ArePlacesAlike, GoesOnFrom, SettlesAs, SettlesWithRest, first_place, game_at, game_from}
+use Rattle.rbg_position.specs.Positions.{ArePlacesAlike, GoesOnFrom, SettlesAs, SettlesWithRest, game_at, game_from}
 use Rattle.rbg_position.specs.Refusals.{most_compared}
 use Rattle.rbg_position.specs.Renumbering.{number_in}
 use Rattle.rbg_position.specs.internal.Parts.{IsBoardWith, SameNames}
@@ -22,7 +23,7 @@ same_things new old pieces rules is = record {
 }
 
 -- .. by the same moves.
-pub settles_by_moves : (new old : AbstractGame) (first to place : AbstractPlace) → first ≡ first_place new → Settles new first to → ArePlacesAlike to place → IsGame new → IsGame old → new ≡ game_at old place
+pub settles_by_moves : (new old : AbstractGame) (first to place : AbstractPlace) → first ≡ start_place new → Settles new first to → ArePlacesAlike to place → IsGame new → IsGame old → new ≡ game_at old place
     → ((ps : List (ℕ × ℕ)) → IsLegal new to ps ↔ IsLegal old place ps) → SettlesAs new old place (number_in [])
 settles_by_moves new old first to place begins settles alike game_new game_old is moves = record {
   to = to;
@@ -37,7 +38,7 @@ settles_by_moves new old first to place begins settles alike game_new game_old i
 }
 
 -- .. by the same rest of the rules.
-pub settles_by_rest : (new old : AbstractGame) (first to place : AbstractPlace) (number : ℕ → ℕ) → first ≡ first_place new → Settles new first to → IsGame new → IsGame old → HaveSameThings new old → HaveSameRest new to old place number → SettlesWithRest new old place number
+pub settles_by_rest : (new old : AbstractGame) (first to place : AbstractPlace) (number : ℕ → ℕ) → first ≡ start_place new → Settles new first to → IsGame new → IsGame old → HaveSameThings new old → HaveSameRest new to old place number → SettlesWithRest new old place number
 settles_by_rest new old first to place number begins settles game_new game_old things same = record {
   to = to;
   settles = subst (λ (p : AbstractPlace). Settles new p to) begins settles;

@@ -1,19 +1,16 @@
 -- The description of a place to which a record leads: that of the same game, with the pieces of that place on the
 -- board; or, where that doesn't say all, that of a game from whose beginning play goes on as from the place.
-use Rattle.std.specs.Prelude.{◌≡◌, ℕ, List, [], None}
-use Rattle.rbg_rules.specs.Meaning.{AbstractGame, start_of, AbstractPlace, Expression}
+use Rattle.std.specs.Prelude.{◌≡◌, ℕ, List, []}
+use Rattle.rbg_rules.specs.Meaning.{AbstractGame, AbstractPlace, Expression}
 use Rattle.rbg_moves.specs.Settling.{Settles}
 use Rattle.rbg_game.specs.Loading.{Loads}
+use Rattle.rbg_match.specs.History.{start_place}
 use Rattle.rbg_record.specs.Reaching.{IsPlaceAfter}
 use Rattle.rbg_position.specs.Onward.{GoesOnAs, HaveSameRest}
 use Rattle.rbg_position.specs.Renumbering.{number_in}
 use Rattle.rbg_position.specs.Same.{game_with}
 use Rattle.rbg_position.specs.Boards.{IsRewritten}
 use Rattle.rbg_position.specs.Sections.{IsSectionOf}
-
--- the place at which play begins
-abbrev pub first_place : AbstractGame → AbstractPlace
-first_place game = record { state = start_of game; last = None }
 
 -- The two places have the same pieces on the board, the same values of the variables, and the same player to move.
 pub record ArePlacesAlike (here there : AbstractPlace) : Type 0 where
@@ -32,7 +29,7 @@ game_from game pieces rules = record (game_with game pieces) { rules = rules }
 -- After the keeper's first moves in the new game play goes on as from the place of the old one.
 pub record SettlesAs (new old : AbstractGame) (place : AbstractPlace) (number : ℕ → ℕ) : Type 0 where
   pub to : AbstractPlace
-  pub settles : Settles new (first_place new) to
+  pub settles : Settles new (start_place new) to
   pub goes_on : GoesOnAs new to old place number
 
 -- The new text is the old one with the section of its board for the pieces of the place.
@@ -51,7 +48,7 @@ pub record IsDescription (text : List ℕ) (game : AbstractGame) (place : Abstra
 -- .. and the rest of the rules is the same, so the numbers are right for each action of it.
 pub record SettlesWithRest (new old : AbstractGame) (place : AbstractPlace) (number : ℕ → ℕ) : Type 0 where
   pub to : AbstractPlace
-  pub settles : Settles new (first_place new) to
+  pub settles : Settles new (start_place new) to
   pub same : HaveSameRest new to old place number
   pub goes_on : GoesOnAs new to old place number
 

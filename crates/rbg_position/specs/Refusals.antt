@@ -5,10 +5,11 @@ use Rattle.rbg_moves.specs.Listing.{IsListed}
 use Rattle.rbg_moves.specs.Settling.{Settles, MeetsHeavy, IsEndless}
 use Rattle.rbg_game.specs.Loading.{Loads, IsMemory, IsRefused as IsRefusedText}
 use Rattle.rbg_game.specs.declared.error.LoadError.{LoadError}
+use Rattle.rbg_match.specs.History.{start_place}
 use Rattle.rbg_record.specs.declared.fault.Misfit.{Misfit}
 use Rattle.rbg_record.specs.Judged.{IsMisfit}
 use Rattle.rbg_record.specs.Reaching.{IsPlaceAfter}
-use Rattle.rbg_position.specs.Positions.{first_place, game_at, IsTextAt, ArePlacesAlike}
+use Rattle.rbg_position.specs.Positions.{game_at, IsTextAt, ArePlacesAlike}
 use Rattle.rbg_position.specs.declared.error.PositionError.{PositionError}
 use Rattle.rbg_position.specs.declared.error.PositionError.TheVariants.{Record, Value, Turn, Keeper, Unsettled, Refused, Moves, Memory}
 
@@ -60,10 +61,10 @@ pub data MayMovesDiffer (new : AbstractGame) (here : AbstractPlace) (old : Abstr
 --   unsettled: they lead to no place at which play could begin.
 pub data BeginsOtherwise (game old : AbstractGame) (place : AbstractPlace) : PositionError → Type 0 where
   otherwise : {at : AbstractPlace} {error : PositionError} →
-      Settles game (first_place game) at → PlacesDiffer at place error → BeginsOtherwise game old place error
+      Settles game (start_place game) at → PlacesDiffer at place error → BeginsOtherwise game old place error
   moves : {at : AbstractPlace} →
-      Settles game (first_place game) at → ArePlacesAlike at place → MayMovesDiffer game at old place → BeginsOtherwise game old place Moves
-  unsettled : {error : PositionError} → IsUnsettled game (first_place game) error → BeginsOtherwise game old place error
+      Settles game (start_place game) at → ArePlacesAlike at place → MayMovesDiffer game at old place → BeginsOtherwise game old place Moves
+  unsettled : {error : PositionError} → IsUnsettled game (start_place game) error → BeginsOtherwise game old place error
 
 -- Why there is no description of the place.
 --   refused: the text with the section of its board for the pieces of the place has a fault, and is no game's.

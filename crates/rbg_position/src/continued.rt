@@ -14,7 +14,7 @@ use crate::opening::settle;
 use crate::place_values::{compare, pieces_of};
 use crate::rest::push_rest;
 use crate::same_board::is_board_with;
-use crate::same_rest::same_rest;
+use crate::same_rest::{LastAction, same_rest};
 use crate::spelling::Speller;
 use crate::way::way_to;
 use crate::whole_text::{Opening, push_values};
@@ -33,6 +33,27 @@ pub struct Setup {
     pub numbers: Vec<Position>,
 }
 
+/// The text of the old game, and its tokens.
+#[derive(Clone, Copy)]
+struct OldText<'a> {
+    text: &'a [u8],
+    tokens: &'a Tokens<'a>,
+}
+
+/// What leads to a place: the last action in the old game, and the shifts from the first vertex in the new one.
+#[derive(Clone, Copy)]
+struct Arrival<'a> {
+    last: Position,
+    way: &'a [Direction],
+}
+
+/// A place of a game.
+#[derive(Clone, Copy)]
+struct GamePlace<'a> {
+    game: &'a PlayedGame,
+    place: &'a Place,
+}
+
 /// The description of a place by the rest of the rules after its last action, or None if none was found.
 pub(crate) fn continued(
     alloc: Global,
@@ -49,7 +70,11 @@ pub(crate) fn continued(
         return Ok(None);
     };
     match way_to(alloc, game.as_game().board(), place.state.vertex())? {
-        Some(way) => right(alloc, text, tokens, game, place, last, &way),
+        Some(way) => {
+            let old = OldText { text, tokens };
+            let way = way.as_slice();
+            right(alloc, old, game, place, Arrival { last, way })
+        }
         None => Ok(None),
     }
 }
@@ -57,18 +82,16 @@ pub(crate) fn continued(
 /// The text of a game that begins at the place, if it is right.
 fn right(
     alloc: Global,
-    text: &[u8],
-    tokens: &Tokens<'_>,
+    old: OldText<'_>,
     game: &PlayedGame,
     place: &Place,
-    last: Position,
-    way: &[Direction],
+    arrival: Arrival<'_>,
 ) -> Result<Option<Setup>, Memory>
     requires { IsPlaceOf game.now place.now }
     ensures { IfOk result (λ new. IfSome new (λ new.
         GoesOnFrom game.now place.now new.text.items new.numbers.items)) }
 {
-    let Some(setup) = written(alloc, text, tokens, game.as_game(), place, last, way)? else {
+    let Some(setup) = written(alloc, old, game.as_game(), place, arrival)? else {
         return Ok(None);
     };
     if is_right(alloc, &setup, game, place)? {
@@ -82,32 +105,30 @@ fn right(
 /// afterwards.
 fn written(
     alloc: Global,
-    text: &[u8],
-    tokens: &Tokens<'_>,
+    old: OldText<'_>,
     game: &Game,
     place: &Place,
-    last: Position,
-    way: &[Direction],
+    arrival: Arrival<'_>,
 ) -> Result<Option<Setup>, Memory>
     requires { IsPlaceOf game.now place.now }
 {
     let rules = game.rules();
     let mut parts = Vec::new(alloc);
-    if !push_rest(&rules.tree, last, &rules.actions, &mut parts)? {
+    if !push_rest(&rules.tree, arrival.last, &rules.actions, &mut parts)? {
         return Ok(None);
     }
     let mut values = Vec::new(alloc);
     push_values(game.variables(), place, &mut values)?;
     let opening = Opening {
         values: values.as_slice(),
-        way,
+        way: arrival.way,
         player: place.state.player(),
     };
     let numbers = old_numbers(alloc, opening.len(), &parts)?;
-    let section = board_section(alloc, tokens, game, pieces_of(place))?;
+    let section = board_section(alloc, old.tokens, game, pieces_of(place))?;
     let speller = Speller { alloc, game };
     let mut out = Vec::new(alloc);
-    out.extend_from_slice(comments_before(text, tokens))?;
+    out.extend_from_slice(comments_before(old))?;
     speller.numbers(&numbers, &mut out)?;
     speller.names(&mut out)?;
     out.extend_from_slice(&section)?;
@@ -117,11 +138,11 @@ fn written(
 }
 
 /// The comments before the first token.
-fn comments_before<'t>(text: &'t [u8], tokens: &Tokens<'_>) -> &'t [u8] {
-    match tokens.as_slice().first() {
+fn comments_before<'a>(old: OldText<'a>) -> &'a [u8] {
+    match old.tokens.as_slice().first() {
         Some(token) => {
-            let end = token.at.min(text.len());
-            &text[..end]
+            let end = token.at.min(old.text.len());
+            &old.text[..end]
         }
         None => &[],
     }
@@ -184,7 +205,13 @@ fn begins_alike(
     old.is_accepted();
     let mut here = new.start()?;
     match settle(alloc, new, &mut here) {
-        Ok(()) => goes_on(alloc, new, &here, old, place, numbers),
+        Ok(()) => {
+            let here = GamePlace {
+                game: new,
+                place: &here,
+            };
+            goes_on(alloc, here, GamePlace { game: old, place }, numbers)
+        }
         Err(PositionError::Memory) => Err(Memory),
         Err(_) => Ok(false),
     }
@@ -193,18 +220,19 @@ fn begins_alike(
 /// Whether a place of a new game and one of an old game have the same semi-state and the same rest of the rules.
 fn goes_on(
     alloc: Global,
-    new: &PlayedGame,
-    here: &Place,
-    old: &PlayedGame,
-    there: &Place,
+    new: GamePlace<'_>,
+    old: GamePlace<'_>,
     numbers: &[Position],
 ) -> Result<bool, Memory>
-    requires here { IsPlaceOf new.now here.now }
-    requires values { length there.now.state.values ≡ length new.now.bounds }
+    requires here { IsPlaceOf new.game.now new.place.now }
+    requires values { length old.place.now.state.values ≡ length new.game.now.bounds }
     ensures { IfOk result (λ alike. IsTrue alike →
-        HaveSameRest new.now here.now old.now there.now (number_in numbers.now)) }
+        HaveSameRest new.entry.game.now new.entry.place.now old.entry.game.now old.entry.place.now
+        (number_in numbers.now)) }
 {
-    if !same_states(new.as_game().variables(), here, there) {
+    let here = new.place;
+    let there = old.place;
+    if !same_states(new.game.as_game().variables(), here, there) {
         return Ok(false);
     }
     let Some(first) = here.after else {
@@ -213,9 +241,15 @@ fn goes_on(
     let Some(last) = there.after else {
         return Ok(false);
     };
-    let new_rules = new.as_game().rules();
-    let old_rules = old.as_game().rules();
-    same_rest(alloc, new_rules, first, old_rules, last, numbers)
+    let first = LastAction {
+        rules: new.game.as_game().rules(),
+        position: first,
+    };
+    let last = LastAction {
+        rules: old.game.as_game().rules(),
+        position: last,
+    };
+    same_rest(alloc, first, last, numbers)
 }
 
 /// Whether two places of games with `count` variables have the same semi-state.

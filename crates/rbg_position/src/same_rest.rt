@@ -13,22 +13,28 @@ use rbg_base::{Memory, Position};
 use rbg_rules::{Action, Rule, Rules};
 use std::alloc::Global;
 
+/// The last action before a place, by its position in the rules.
+#[derive(Clone, Copy)]
+pub(crate) struct LastAction<'a> {
+    pub rules: &'a Rules,
+    pub position: Position,
+}
+
 /// Whether the rest of new rules after an action, with the old numbers, is that of the old ones after theirs.
 pub(crate) fn same_rest(
     alloc: Global,
-    new: &Rules,
-    here: Position,
-    old: &Rules,
-    there: Position,
+    new: LastAction<'_>,
+    old: LastAction<'_>,
     numbers: &[Position],
 ) -> Result<bool, Memory>
     ensures { IfOk result (λ same. IsTrue same →
-        SameRest (rules_of new.now) here (rules_of old.now) there (number_in numbers.now)) }
+        SameRest (rules_of new.entry.rules.now) new.entry.position
+        (rules_of old.entry.rules.now) old.entry.position (number_in numbers.now)) }
 {
-    let Some(new_key) = key_of_rest(alloc, new, here)? else {
+    let Some(new_key) = key_of_rest(alloc, new.rules, new.position)? else {
         return Ok(false);
     };
-    let Some(old_key) = key_of_rest(alloc, old, there)? else {
+    let Some(old_key) = key_of_rest(alloc, old.rules, old.position)? else {
         return Ok(false);
     };
     let new_key = renumbered(alloc, &new_key, numbers)?;

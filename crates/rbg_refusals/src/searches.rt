@@ -36,6 +36,13 @@ enum Question {
     Pattern,
 }
 
+/// A game, and the automaton of its rules, by which it is searched.
+#[derive(Drop)]
+struct SearchedGame<'a> {
+    game: &'a Game,
+    steps: &'a Compact,
+}
+
 /// Makes the run of a name, if it is one of these; else the next module does.
 pub fn run<W: Write>(alloc: Global, name: &str, facts: &mut Facts<W>) -> Result<(), Stop> {
     match name {
@@ -74,56 +81,58 @@ fn ask_game<W: Write>(
     facts: &mut Facts<W>,
 ) -> Result<(), Stop> {
     let steps = compact(alloc, game)?;
-    ask_by(alloc, game, &steps, question, facts)
+    let searched = SearchedGame {
+        game,
+        steps: &steps,
+    };
+    ask_by(alloc, &searched, question, facts)
 }
 
 fn ask_by<W: Write>(
     alloc: Global,
-    game: &Game,
-    steps: &Compact,
+    searched: &SearchedGame<'_>,
     question: Question,
     facts: &mut Facts<W>,
 ) -> Result<(), Stop>
-    requires { ⟦<Compact as Steps>⟧.of_rules steps.now game.now.rules }
+    requires { ⟦<Compact as Steps>⟧.of_rules searched.now.steps.now searched.now.game.now.rules }
 {
-    let mut place = Place::start(alloc, game)?;
-    ask_from(alloc, game, steps, question, &mut place.state, facts)
+    let mut place = Place::start(alloc, searched.game)?;
+    ask_from(alloc, searched, question, &mut place.state, facts)
 }
 
 /// Asks the question, and compares the semi-state that is lent with a copy taken before.
 fn ask_from<W: Write>(
     alloc: Global,
-    game: &Game,
-    steps: &Compact,
+    searched: &SearchedGame<'_>,
     question: Question,
     state: &mut SemiState,
     facts: &mut Facts<W>,
 ) -> Result<(), Stop>
-    requires steps { ⟦<Compact as Steps>⟧.of_rules steps.now game.now.rules }
-    requires state { IsStateOf game.now state.old.state }
+    requires steps { ⟦<Compact as Steps>⟧.of_rules searched.now.steps.now searched.now.game.now.rules }
+    requires state { IsStateOf searched.now.game.now state.old.state }
 {
     let copy = state.try_clone()?;
-    ask_lent(alloc, game, steps, question, state, facts)?;
+    ask_lent(alloc, searched, question, state, facts)?;
     facts.kept("semi-state is", *state == copy);
     Ok(())
 }
 
 fn ask_lent<W: Write>(
     alloc: Global,
-    game: &Game,
-    steps: &Compact,
+    searched: &SearchedGame<'_>,
     question: Question,
     state: &mut SemiState,
     facts: &mut Facts<W>,
 ) -> Result<(), Stop>
-    requires steps { ⟦<Compact as Steps>⟧.of_rules steps.now game.now.rules }
-    requires state { IsStateOf game.now state.old.state }
+    requires steps { ⟦<Compact as Steps>⟧.of_rules searched.now.steps.now searched.now.game.now.rules }
+    requires state { IsStateOf searched.now.game.now state.old.state }
 {
+    let game = searched.game;
     if game.positions() < ASKED as usize || !game.is_pattern(ASKED) {
         return Err(Stop::Wrong);
     }
     let mut buffers = Buffers::new(alloc);
-    let mut search = Search::new(alloc, game, steps, BUDGET, &mut buffers);
+    let mut search = Search::new(alloc, game, searched.steps, BUDGET, &mut buffers);
     match question {
         Question::Reach => tell_reached(&search.reach(state, Origin::Begin(Expr::Rules)), facts),
         Question::Pattern => tell_valid(search.pattern(state, ASKED), facts),

@@ -21,6 +21,13 @@ struct Service {
     rounds: u64,
 }
 
+/// The lines of two seats, and the maximum number of rounds in which they are served.
+#[derive(Drop)]
+struct ServedLines {
+    lines: [MemoryLine; 2],
+    rounds: u64,
+}
+
 /// Nothing comes over the line, and it takes everything.
 const SILENT: Plan = Plan {
     gives: &[],
@@ -120,28 +127,35 @@ fn serve_in<W: Write>(
 ) -> Result<(), Stop>
     requires { length outbox.old ≡ seats_of opened.old.game }
 {
-    let mut lines = two_lines(alloc, &service.lines)?;
-    serve_over(alloc, &mut lines, service.rounds, opened, outbox, facts)
+    let mut over = ServedLines {
+        lines: two_lines(alloc, &service.lines)?,
+        rounds: service.rounds,
+    };
+    serve_over(alloc, &mut over, opened, outbox, facts)
 }
 
 fn serve_over<W: Write>(
     alloc: Global,
-    lines: &mut [MemoryLine; 2],
-    rounds: u64,
+    over: &mut ServedLines,
     opened: &mut Match,
     outbox: &mut Outbox,
     facts: &mut Facts<W>,
 ) -> Result<(), Stop>
     requires { length outbox.old ≡ seats_of opened.old.game }
 {
-    if opened.players() != lines.len() {
+    if opened.players() != over.lines.len() {
         return Err(Stop::Wrong);
     }
     let mut clock = ListClock::new(Vec::new(alloc));
-    let served = serve(lines, opened, outbox, &mut clock, rounds);
+    let served = serve(&mut over.lines, opened, outbox, &mut clock, over.rounds);
     if outbox.seats() != 2 {
         return Err(Stop::Wrong);
     }
-    tell_served(served, lines, [outbox.bytes(1), outbox.bytes(2)], facts);
+    tell_served(
+        served,
+        &over.lines,
+        [outbox.bytes(1), outbox.bytes(2)],
+        facts,
+    );
     Ok(())
 }

@@ -15,7 +15,7 @@ returns-in-Ok g c =
     let unread = g.R.Read.remaining c.args.input.now in
     let left = g.R.Read.remaining c.read_match.new.input in
     let file = c.in-Some.file.now in
-    let target = c.args.target.now in
+    let target = c.args.named.target.now in
     let d = c.in-Ok.ensures.description in
     let t = c.in-Ok.ensures.told in
     rw c.in-Some.is (IfOk-weaker c.record_read.result _ _
@@ -27,7 +27,7 @@ returns-in-Whole g c =
     let told = g.F.Files.told in
     let unread = g.R.Read.remaining c.args.input.now in
     let left = g.R.Read.remaining c.read_input.new.reader in
-    let target = c.args.target.now in
+    let target = c.args.named.target.now in
     let all : IsAll most_input unread left c.in-Whole.bytes.items = subst (IsReading most_input unread left) c.in-Whole.is c.in_ok-bytes-in-None.ensures in
     rw c.in-None.is (IfOk-weaker c.record_marked.result _ _
     (λ answer is. input_answer g.F.Files.knows_new (told c.args.files.now) (told c.record_marked.new.files) unread left target c.in-Whole.bytes.items answer.text.items answer.status all
@@ -39,5 +39,5 @@ returns-in-TooLong g c =
     let left = g.R.Read.remaining c.read_input.new.reader in
     let above : IsAbove most_input unread left = subst (IsReading most_input unread left) c.in-TooLong.is c.in_ok-bytes-in-None.ensures in
     rw c.in-None.is (both c.answer_script.result _ _ _
-    (λ answer is was. long_input_answer g.F.Files.knows_new _ _ unread left c.args.target.now answer.text.items answer.status above is was)
+    (λ answer is was. long_input_answer g.F.Files.knows_new _ _ unread left c.args.named.target.now answer.text.items answer.status above is was)
     c.answer_script.ensures.text c.answer_script.ensures.status)

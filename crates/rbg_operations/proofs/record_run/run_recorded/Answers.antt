@@ -11,4 +11,4 @@ returns g c =
     let after = g.F.Files.told c.answer_recorded-answered.new.files in
     let unread = g.R.Read.remaining c.args.input.now in
     let left = g.R.Read.remaining c.answer_recorded-answered.new.input in
-    run_of (IsRecordedAnswer g.F.Files.knows_new known after unread left (recorded_task (option_map (λ name. name.now) c.args.file) c.args.target.now)) _ _ c.answer_recorded-answered.result c.write_answer.result c.answer_recorded-answered.ensures c.write_answer.ensures
+    run_of (IsRecordedAnswer g.F.Files.knows_new known after unread left (recorded_task (option_map (λ name. name.now) c.args.named.file) c.args.named.target.now)) _ _ c.answer_recorded-answered.result c.write_answer.result c.answer_recorded-answered.ensures c.write_answer.ensures

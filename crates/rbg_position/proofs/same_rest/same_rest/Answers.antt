@@ -18,7 +18,7 @@ found o key P some = subst (λ x. IfSome x P) some
 
 pub returns : goal.returns
 returns c = λ h.
-    same_rests (rules_of c.args.new.now) (rules_of c.args.old.now) c.args.here c.args.there (number_in c.args.numbers.now) _ _ _
+    same_rests (rules_of c.args.new.rules.now) (rules_of c.args.old.rules.now) c.args.new.position c.args.old.position (number_in c.args.numbers.now) _ _ _
     (found _ c.in-Some.new_key _ c.in-Some.is c.in_ok-new_key.ensures) (found _ c.in-Some-2.old_key _ c.in-Some-2.is c.in_ok-old_key.ensures)
     (c.in_ok-new_key-2.ensures ∙ ap (map (renumbered_mark (number_in c.args.numbers.now))) c.deref.ensures.value)
     (sym c.as_slice.ensures.value ∙ (slice_eq-Decides decides _ _ _ c.eq.ensures).0 h ∙ c.as_slice-2.ensures.value)
