@@ -49,7 +49,7 @@ pub(crate) fn expectation_words(what: Expectation, spot: Option<Spot<'_>>) -> &'
 
 pub(crate) fn needed_words(needed: Needed) -> &'static str {
     match needed {
-        Needed::Direction => "the name of a direction",
+        Needed::Direction => "the name of a direction or a macro",
         Needed::Piece => "the name of a piece",
         Needed::Player => "the name of a player",
         Needed::Variable => "the name of a variable",
