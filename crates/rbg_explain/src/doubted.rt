@@ -111,7 +111,7 @@ fn index_at(position: Position) -> usize {
 const NO_VALUE: &str = "there is no value: a divisor is zero, or a number on the way is too great";
 
 /// The first token of the value that an action assigns.
-fn value_start<'t>(action: &[Token<'t>]) -> Option<Token<'t>> {
+pub(crate) fn value_start<'t>(action: &[Token<'t>]) -> Option<Token<'t>> {
     let index = index_of(action, Symbol::Equals)?;
     action.get(index.saturating_add(1)).copied()
 }

@@ -11,6 +11,7 @@ mod doubted;
 mod exact;
 mod explanation;
 mod foreign_comments;
+mod forgotten;
 mod hints;
 mod joined;
 mod listed;
