@@ -8,6 +8,7 @@ mod calls;
 mod codes;
 mod diagnosed;
 mod doubted;
+mod drawing_comments;
 mod exact;
 mod explanation;
 mod foreign_comments;

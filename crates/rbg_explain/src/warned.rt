@@ -3,6 +3,7 @@
 use crate::boards::nth_direction;
 use crate::calls::{calls_of, relate_calls};
 use crate::doubted::{push_doubts, value_start};
+use crate::drawing_comments::push_comments;
 use crate::spot::Spot;
 use rbg_base::Position;
 use rbg_game::Game;
@@ -128,7 +129,8 @@ fn push_source_warnings(
     let rules = section_tokens(alloc, source, SectionKind::Rules)?;
     let actions = actions(alloc, &rules)?;
     push_warnings_among(alloc, written, source, &actions, found)?;
-    push_doubts(alloc, written.text, &actions, written.game, found)
+    push_doubts(alloc, written.text, &actions, written.game, found)?;
+    push_comments(alloc, written.text, source, found)
 }
 
 /// Adds the warnings of the game with these sections and actions.

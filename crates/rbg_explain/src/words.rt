@@ -86,7 +86,12 @@ pub(crate) fn write_use(
             write_sample(writer, ", and `[", used.spelt, "]` puts it");
         }
         (Needed::Direction, NameKind::Player) => {
-            write_sample(writer, ": `->", used.spelt, "` gives the turn to the player ");
+            write_sample(
+                writer,
+                ": `->",
+                used.spelt,
+                "` gives the turn to the player ",
+            );
             writer.name(used.name);
         }
         (Needed::Direction, NameKind::Variable) => {
