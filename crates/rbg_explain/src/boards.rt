@@ -148,7 +148,7 @@ fn is_second(tokens: &[Token<'_>], start: usize, index: usize, symbol: Symbol) -
 }
 
 /// Whether a name stands directly before such a symbol.
-fn stands_before(tokens: &[Token<'_>], name: &[u8], symbol: Symbol) -> bool {
+pub(crate) fn stands_before(tokens: &[Token<'_>], name: &[u8], symbol: Symbol) -> bool {
     for (index, token) in tokens.iter().enumerate() {
         if token.text == name && is_at(tokens, index.saturating_add(1), symbol) {
             return true;

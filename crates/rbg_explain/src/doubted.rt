@@ -89,13 +89,13 @@ fn push_doubt(
             push_decided(alloc, described.action(position), held, holds, found)
         }
         Doubt::KeeperBegins { off } => push_beginning(alloc, described.action(off), found),
-        Doubt::GoesBack { position, off } => {
-            let back = described.action(off);
-            push_going_back(
+        Doubt::GoesOn { position, off } => {
+            let put = described.action(off);
+            push_going_on(
                 alloc,
                 described.text,
                 described.action(position),
-                back,
+                put,
                 found,
             )
         }
@@ -111,7 +111,7 @@ fn index_at(position: Position) -> usize {
 const NO_VALUE: &str = "there is no value: a divisor is zero, or a number on the way is too great";
 
 /// The first token of the value that an action assigns.
-fn value_start<'t>(action: &[Token<'t>]) -> Option<Token<'t>> {
+pub(crate) fn value_start<'t>(action: &[Token<'t>]) -> Option<Token<'t>> {
     let index = index_of(action, Symbol::Equals)?;
     action.get(index.saturating_add(1)).copied()
 }
@@ -213,22 +213,22 @@ fn push_beginning(
     push_new(found, warning)
 }
 
-/// Adds that the keeper goes back after a `->>`, and puts a piece there.
-fn push_going_back(
+/// Adds that the keeper goes on after a `->>`, and puts a piece as a player does.
+fn push_going_on(
     alloc: Global,
     text: &[u8],
     switch: &[Token<'_>],
     off: &[Token<'_>],
     found: &mut Vec<Diagnostic>,
 ) -> Result<(), AllocError> {
-    let ([token, ..], [back, ..]) = (switch, off) else {
+    let ([token, ..], [put, ..]) = (switch, off) else {
         return Ok(());
     };
-    let mut warning = warning_at(alloc, "KeeperGoesBack", *token);
+    let mut warning = warning_at(alloc, "KeeperGoesOn", *token);
     let mut writer = MessageWriter::new(alloc, &mut warning.message);
-    writer.text("after this `->>` the keeper goes back in the rules without another switch,");
-    writer.place(" and puts a piece at ", line_and_column(text, back.at), "");
-    writer.text(": to end play, write `->> {}`");
+    writer.text("after this `->>` the keeper goes on in the rules without another switch,");
+    writer.place(" and puts a piece at ", line_and_column(text, put.at), "");
+    writer.text(", as a player does: to end play, write `->> {}`");
     writer.end()?;
     push_new(found, warning)
 }

@@ -2,6 +2,7 @@
 
 use crate::codes::code_of;
 use crate::exact::find_place;
+use crate::forgotten::push_forgotten;
 use crate::joined::relate_joins;
 use crate::meant::meant_name;
 use crate::message::{Known, Message};
@@ -74,8 +75,34 @@ pub(crate) fn faults(
     Ok(found)
 }
 
-/// Adds the faults of a text that is refused.
+/// Adds the faults of a text that is refused: the heads without a `#`, from which other faults follow, or else all that is
+/// known.
 fn push_faults(
+    alloc: Global,
+    refused: &Refused<'_>,
+    found: &mut Vec<Diagnostic>,
+) -> Result<(), AllocError> {
+    if may_follow(refused.error) {
+        push_forgotten(alloc, refused.text, slice_of(refused.tokens), found)?;
+    }
+    if found.is_empty() {
+        push_known_faults(alloc, refused, found)?;
+    }
+    Ok(())
+}
+
+/// Whether a refusal may follow from a head without a `#`.
+fn may_follow(error: &LoadError) -> bool {
+    matches!(
+        error,
+        LoadError::Syntax(_)
+            | LoadError::Game(_)
+            | LoadError::Macro(MacroError::ArgumentCount { .. } | MacroError::Twice { .. })
+    )
+}
+
+/// Adds the faults of a text that is refused, where each head has its `#`.
+fn push_known_faults(
     alloc: Global,
     refused: &Refused<'_>,
     found: &mut Vec<Diagnostic>,
@@ -273,9 +300,10 @@ fn push_part_fault(
     fault: PartFault,
     found: &mut Vec<Diagnostic>,
 ) -> Result<(), AllocError> {
-    let Some(trace) = flat.trace(fault.at) else {
+    let Some(traced) = flat.trace(fault.at) else {
         return Ok(());
     };
+    let trace = traced.shown(&fault.error);
     if has_fault_at(found, trace.origin.at) {
         return Ok(());
     }

@@ -5,7 +5,7 @@ use crate::brackets::CallForm;
 use crate::foreign_comments::is_in_comment;
 use crate::spot::{Needed, Spot};
 use crate::traced::Trace;
-use crate::words::{expectation_words, head_words, most_of, needed_words, use_words};
+use crate::words::{UsedName, expectation_words, head_words, most_of, needed_words, write_use};
 use rbg_board::BoardError;
 use rbg_game::limits::{MAX_BOUND, MAX_NESTED_PATTERNS, MAX_VERTICES};
 use rbg_game::{GameError, LoadError};
@@ -112,8 +112,10 @@ impl<'a, 'k> Message<'a, 'k> {
     /// Which name is probably meant, and by what, where that isn't what stands here.
     fn write_meant(&self, writer: &mut MessageWriter<'_>, name: &[u8]) {
         match self.error {
-            LoadError::Syntax(SyntaxError::MissingSection { .. }) => {
-                writer.named("; did you mean it by ", name, "?");
+            LoadError::Syntax(SyntaxError::MissingSection { which }) => {
+                writer.named(", found the macro ", name, "");
+                write_section(writer, "; did you mean `#", *which);
+                writer.text("?");
             }
             LoadError::Syntax(_) => {
                 writer.named("; did you mean ", name, " by ");
@@ -147,7 +149,8 @@ impl<'a, 'k> Message<'a, 'k> {
     /// The text of the token at the refusal's place, if `~` has joined it.
     pub fn joined(&self) -> Option<&'k [u8]> {
         let trace = self.trace()?;
-        if self.has_ended || !self.is_of_token() || trace.text() == self.spot?.token.text {
+        let is_shown = !self.has_ended && !trace.is_parameter;
+        if !is_shown || !self.is_of_token() || trace.text() == self.spot?.token.text {
             None
         } else {
             Some(trace.text())
@@ -247,10 +250,10 @@ impl<'a, 'k> Message<'a, 'k> {
         writer.text(after);
     }
 
-    /// Writes what was found: the token at the refusal's place, joined if `~` has joined it.
+    /// Writes what was found: the token at the refusal's place, joined if `~` has joined it; or the parameter that is shown.
     fn write_found(&self, writer: &mut MessageWriter<'_>) {
         match (self.trace(), self.spot) {
-            (Some(trace), _) if !self.has_ended => writer.name(trace.text()),
+            (Some(trace), _) if !self.has_ended && !trace.is_parameter => writer.name(trace.text()),
             (_, Some(spot)) => writer.name(spot.token.text),
             (_, None) => writer.text("nothing"),
         }
@@ -413,9 +416,22 @@ impl<'a, 'k> Message<'a, 'k> {
         writer.text(kind.words());
         writer.text(" ");
         self.write_found(writer);
-        if self.parameter().is_none() {
-            writer.text(use_words(self.needed(), kind));
+        if let Some(used) = self.used_name() {
+            write_use(writer, self.needed(), kind, used);
         }
+    }
+
+    /// The name that was found, as the body of its macro spells it. None in place of a parameter where no direction is
+    /// needed: another argument is meant there.
+    fn used_name(&self) -> Option<UsedName<'_>> {
+        let name = self.trace()?.text();
+        let is_direction = matches!(self.needed(), Needed::Direction);
+        let spelt = match self.parameter() {
+            Some(_) if !is_direction => return None,
+            Some(parameter) if self.joined().is_none() => parameter.token.text,
+            _ => name,
+        };
+        Some(UsedName { spelt, name })
     }
 
     /// Of what kind the name is that was found.

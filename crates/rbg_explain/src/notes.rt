@@ -4,7 +4,10 @@ use crate::calls::relate_calls;
 use crate::message::{Known, Message};
 use crate::spot::{Spot, head_name};
 use rbg_game::{GameError, LoadError};
-use rbg_lint::{Diagnostic, MessageWriter, NameKind, kind_of, line_and_column, relate_bracket};
+use rbg_lint::{
+    Diagnostic, MessageWriter, NameKind, count_names, kind_of, line_and_column, nth_name,
+    relate_bracket,
+};
 use rbg_macro::{MacroError, Symbol, Token};
 use rbg_syntax::{Expectation, SyntaxError};
 use std::alloc::{AllocError, Global};
@@ -145,11 +148,36 @@ fn relate_definition(
     let (line, _) = line_and_column(message.text, head.at);
     writer.named("the macro ", head.text, "");
     writer.number(" is defined on line ", line, "");
+    if let LoadError::Macro(MacroError::ArgumentCount { .. }) = message.error
+        && let Some(spot) = message.spot
+    {
+        write_parameters(&mut writer, spot.parameters_of(head.text));
+    }
     if repeats(message) {
         writer.text(", and calls itself, or by way of other macros");
     }
     writer.end()?;
     fault.relate(head.at, head.text.len(), words)
+}
+
+/// The maximum number of parameters that are named.
+const MOST_PARAMETERS: usize = 12;
+
+/// Writes the names of a macro's parameters, among the tokens of its head.
+fn write_parameters(writer: &mut MessageWriter<'_>, head: &[Token<'_>]) {
+    let before = if count_names(head) == 1 {
+        ", with the parameter "
+    } else {
+        ", with the parameters "
+    };
+    for index in 0..MOST_PARAMETERS {
+        if let Some(parameter) = nth_name(head, index) {
+            writer.named(if index == 0 { before } else { ", " }, parameter.text, "");
+        }
+    }
+    if nth_name(head, MOST_PARAMETERS).is_some() {
+        writer.text(", ..");
+    }
 }
 
 /// Whether a call is too deep since it leads to itself.

@@ -152,6 +152,14 @@ impl<'a> Spot<'a> {
         matches!(self.call_form(), CallForm::Open)
     }
 
+    /// The tokens between the name and the `=` in the head of the macro with a name.
+    pub fn parameters_of(&self, name: &[u8]) -> &'a [Token<'a>] {
+        match rest_after_head(self.tokens, name) {
+            Some(rest) => before_first(rest, Symbol::Equals),
+            None => &[],
+        }
+    }
+
     /// How many parameters the macro of the token's name has.
     pub fn parameters(&self) -> Option<usize> {
         Some(parameter_count(rest_after_head(self.tokens, self.token.text)?))

@@ -4,7 +4,8 @@ use crate::exact::find_place;
 use crate::spot::Spot;
 use rbg_game::{LoadError, load_with_layout};
 use rbg_lint::{TokenOrigin, Unrolled, cut};
-use rbg_macro::{Symbol, Token, Tokens};
+use rbg_macro::{Symbol, Token, TokenKind, Tokens};
+use rbg_syntax::{Expectation, SyntaxError};
 use std::alloc::{AllocError, Global};
 
 /// A description whose macros are written out, with its tokens.
@@ -20,7 +21,10 @@ pub(crate) struct Trace<'a> {
     pub flat: Flat<'a>,
     /// The token among those of the description.
     pub spot: Spot<'a>,
+    /// Where it comes from, or the parameter if that is shown.
     pub origin: TokenOrigin,
+    /// Whether the parameter is shown in whose place the token stands.
+    pub is_parameter: bool,
 }
 
 /// Why a part of a description is refused, and the offset of the fault there.
@@ -46,6 +50,7 @@ impl<'a> Flat<'a> {
             flat: *self,
             spot,
             origin: self.unrolled.origin(spot.index())?,
+            is_parameter: false,
         })
     }
 
@@ -147,8 +152,62 @@ impl<'a> Trace<'a> {
         self.spot.token.text
     }
 
+    /// What is shown of a fault: the parameter in whose place the token stands if the body of its macro is at fault, since no
+    /// name fits there; or else the token.
+    pub fn shown(&self, error: &LoadError) -> Trace<'a> {
+        let mut shown = *self;
+        if is_of_form(error) && self.begins_argument() {
+            shown.origin.at = self.origin.place;
+            shown.is_parameter = true;
+        }
+        shown
+    }
+
+    /// Whether the token is a name or a number with which an argument begins in place of a parameter.
+    fn begins_argument(&self) -> bool {
+        let is_symbol = matches!(self.spot.token.kind, TokenKind::Symbol(_));
+        if is_symbol || self.origin.place == self.origin.at {
+            return false;
+        }
+        match self.spot.index().checked_sub(1) {
+            Some(before) => !self.is_beside(before),
+            None => true,
+        }
+    }
+
+    /// Whether the token with an index comes from the same argument, in place of the same parameter.
+    fn is_beside(&self, index: usize) -> bool {
+        let unrolled = self.flat.unrolled;
+        let mut next = unrolled.origin(index);
+        for _ in 0..=unrolled.calls.len() {
+            let Some(origin) = next else {
+                return false;
+            };
+            if origin.place == self.origin.place && origin.call == self.origin.call {
+                return true;
+            }
+            next = unrolled.call_of(origin);
+        }
+        false
+    }
+
     /// Where the bracket comes from that is open at its token.
     pub fn open_bracket(&self) -> Option<Trace<'a>> {
         self.flat.trace(self.spot.open_bracket()?.at)
     }
+}
+
+/// Whether a sign is missing, for which no name stands.
+fn is_of_form(error: &LoadError) -> bool {
+    matches!(
+        error,
+        LoadError::Syntax(SyntaxError::Expected {
+            what: Expectation::Closing
+                | Expectation::Equals
+                | Expectation::Comma
+                | Expectation::Colon
+                | Expectation::End,
+            ..
+        })
+    )
 }

@@ -1,18 +1,28 @@
 //! What an author is warned of, in words.
 
 use crate::boards::nth_direction;
-use crate::calls::calls_of;
-use crate::doubted::push_doubts;
+use crate::calls::{calls_of, relate_calls};
+use crate::doubted::{push_doubts, value_start};
+use crate::drawing_comments::push_comments;
+use crate::spot::Spot;
 use rbg_base::Position;
 use rbg_game::Game;
 use rbg_lint::{
-    Diagnostic, Look, MessageWriter, Severity, cut, expanded, index_of, is_section, nth_name,
-    push_warnings, section_tokens, unroll,
+    Diagnostic, Look, MessageWriter, Severity, cut, expanded, index_of, is_section,
+    line_and_column, nth_name, push_warnings, section_tokens, unroll,
 };
 use rbg_macro::{SectionKind, Source, Symbol, Token, Tokens};
 use rbg_rules::Action;
 use rbg_warnings::{NamedThing, Warning, actions, warnings};
 use std::alloc::{AllocError, Global};
+
+/// A text, its tokens, and the game that it describes.
+#[derive(Clone, Copy)]
+struct Written<'a> {
+    text: &'a [u8],
+    tokens: &'a [Token<'a>],
+    game: &'a Game,
+}
 
 /// The warnings of the game that a text with these tokens describes.
 pub fn game_warnings(
@@ -97,7 +107,14 @@ fn push_game_warnings(
     found: &mut Vec<Diagnostic>,
 ) -> Result<(), AllocError> {
     match expanded(alloc, tokens)? {
-        Some(source) => push_source_warnings(alloc, text, game, &source, found),
+        Some(source) => {
+            let written = Written {
+                text,
+                tokens: tokens.as_slice(),
+                game,
+            };
+            push_source_warnings(alloc, written, &source, found)
+        }
         None => Ok(()),
     }
 }
@@ -105,31 +122,32 @@ fn push_game_warnings(
 /// Adds the warnings of the game with these sections.
 fn push_source_warnings(
     alloc: Global,
-    text: &[u8],
-    game: &Game,
+    written: Written<'_>,
     source: &Source<'_>,
     found: &mut Vec<Diagnostic>,
 ) -> Result<(), AllocError> {
     let rules = section_tokens(alloc, source, SectionKind::Rules)?;
     let actions = actions(alloc, &rules)?;
-    push_warnings_among(alloc, source, &actions, game, found)?;
-    push_doubts(alloc, text, &actions, game, found)
+    push_warnings_among(alloc, written, source, &actions, found)?;
+    push_doubts(alloc, written.text, &actions, written.game, found)?;
+    push_comments(alloc, written.text, source, found)
 }
 
 /// Adds the warnings of the game with these sections and actions.
 fn push_warnings_among(
     alloc: Global,
+    written: Written<'_>,
     source: &Source<'_>,
     actions: &[&[Token<'_>]],
-    game: &Game,
     found: &mut Vec<Diagnostic>,
 ) -> Result<(), AllocError> {
+    let game = written.game;
     for warning in &warnings(alloc, game)? {
         match warning {
             Warning::TooGreat { position } => {
                 let index = (*position as usize).saturating_sub(1);
                 let action = actions.get(index).copied().unwrap_or(&[]);
-                push_too_great(alloc, found, action, bound_at(game, *position))?;
+                push_too_great(alloc, written, action, bound_at(game, *position), found)?;
             }
             Warning::Unused { thing } => {
                 push_unused(alloc, found, source, game.players(), *thing)?;
@@ -152,27 +170,75 @@ fn bound_at(game: &Game, position: Position) -> u32 {
     }
 }
 
-/// Adds that the number of an assignment is above the bound of its variable, the first name of its action.
+/// Adds that the number of an assignment is above the bound of its variable, the first name of its action. One number of a
+/// macro's body is reported once.
 fn push_too_great(
     alloc: Global,
-    found: &mut Vec<Diagnostic>,
+    written: Written<'_>,
     action: &[Token<'_>],
     bound: u32,
+    found: &mut Vec<Diagnostic>,
 ) -> Result<(), AllocError> {
-    let Some(token) = nth_name(action, 0) else {
+    let (Some(variable), Some(number)) = (nth_name(action, 0), value_start(action)) else {
         return Ok(());
     };
-    let mut warning = warning_at(alloc, "AboveBound", token);
+    let mut warning = warning_at(alloc, "AboveBound", number);
     let mut writer = MessageWriter::new(alloc, &mut warning.message);
     writer.text("the number is above ");
     writer.shown(&bound);
     writer.named(
         ", the bound of ",
-        token.text,
+        variable.text,
         ", so this assignment is never valid",
     );
     writer.end()?;
+    relate_macro(alloc, written, &mut warning, number, variable)?;
     push_new(found, warning)
+}
+
+/// The name of the macro in whose body a token stands.
+fn macro_around<'a>(tokens: &'a [Token<'a>], token: Token<'_>) -> Option<Token<'a>> {
+    Spot::find(tokens, token.at)?.macro_name()
+}
+
+/// Adds to a warning on a number in the body of a macro which macro that is, and where the variable is an argument or else
+/// where the macro is called.
+fn relate_macro(
+    alloc: Global,
+    written: Written<'_>,
+    warning: &mut Diagnostic,
+    number: Token<'_>,
+    variable: Token<'_>,
+) -> Result<(), AllocError> {
+    let Some(head) = macro_around(written.tokens, number) else {
+        return Ok(());
+    };
+    let mut words = Vec::new(alloc);
+    let mut writer = MessageWriter::new(alloc, &mut words);
+    writer.named("in the body of the macro ", head.text, "");
+    writer.end()?;
+    warning.relate(head.at, head.text.len(), words)?;
+    match macro_around(written.tokens, variable) {
+        Some(around) if around.at == head.at => {
+            relate_calls(alloc, warning, written.text, written.tokens, head.text)
+        }
+        _ => relate_argument(alloc, written.text, warning, variable),
+    }
+}
+
+/// Adds to a warning where a variable is the argument of a call.
+fn relate_argument(
+    alloc: Global,
+    text: &[u8],
+    warning: &mut Diagnostic,
+    variable: Token<'_>,
+) -> Result<(), AllocError> {
+    let mut words = Vec::new(alloc);
+    let mut writer = MessageWriter::new(alloc, &mut words);
+    writer.named("called with ", variable.text, "");
+    writer.place(" at ", line_and_column(text, variable.at), "");
+    writer.end()?;
+    warning.relate(variable.at, variable.text.len(), words)
 }
 
 /// Adds that the rules never use a thing, at its name in the section that lists it.

@@ -3,7 +3,7 @@
 use crate::spot::{Needed, Spot};
 use rbg_game::Thing;
 use rbg_game::limits::{MAX_DIRECTIONS, MAX_PIECES, MAX_PLAYERS, MAX_POSITIONS, MAX_VARIABLES};
-use rbg_lint::NameKind;
+use rbg_lint::{MessageWriter, NameKind};
 use rbg_macro::{Symbol, Token};
 use rbg_syntax::Expectation;
 
@@ -49,7 +49,7 @@ pub(crate) fn expectation_words(what: Expectation, spot: Option<Spot<'_>>) -> &'
 
 pub(crate) fn needed_words(needed: Needed) -> &'static str {
     match needed {
-        Needed::Direction => "the name of a direction",
+        Needed::Direction => "the name of a direction or a macro",
         Needed::Piece => "the name of a piece",
         Needed::Player => "the name of a player",
         Needed::Variable => "the name of a variable",
@@ -58,19 +58,71 @@ pub(crate) fn needed_words(needed: Needed) -> &'static str {
     }
 }
 
-/// How a name of such a kind is used, where another name is needed.
-pub(crate) fn use_words(needed: Needed, kind: NameKind) -> &'static str {
+/// A name that was found where one of another kind is needed.
+#[derive(Clone, Copy)]
+pub(crate) struct UsedName<'a> {
+    /// As it is spelt there: the name itself, or the parameter in whose place it stands.
+    pub spelt: &'a [u8],
+    pub name: &'a [u8],
+}
+
+/// A longer name is shown in no sample.
+const MOST_SAMPLED: usize = 40;
+
+/// Writes how a name of such a kind is used, where another name is needed.
+pub(crate) fn write_use(
+    writer: &mut MessageWriter<'_>,
+    needed: Needed,
+    kind: NameKind,
+    used: UsedName<'_>,
+) {
+    if used.spelt.len() > MOST_SAMPLED {
+        return;
+    }
     match (needed, kind) {
-        (Needed::Direction, NameKind::Piece) => ": `{w}` asks for a piece `w`, and `[w]` puts it",
-        (Needed::Direction, NameKind::Player) => ": `->white` gives the turn to a player `white`",
+        (Needed::Direction, NameKind::Piece) => {
+            write_sample(writer, ": `{", used.spelt, "}` asks for a piece ");
+            writer.name(used.name);
+            write_sample(writer, ", and `[", used.spelt, "]` puts it");
+        }
+        (Needed::Direction, NameKind::Player) => {
+            write_sample(
+                writer,
+                ": `->",
+                used.spelt,
+                "` gives the turn to the player ",
+            );
+            writer.name(used.name);
+        }
         (Needed::Direction, NameKind::Variable) => {
-            ": `[$ a = 1]` assigns to a variable `a`, and `{$ a == 1}` compares it"
+            write_sample(
+                writer,
+                ": `[$ ",
+                used.spelt,
+                " = 1]` assigns to the variable ",
+            );
+            writer.name(used.name);
+            write_sample(writer, ", and `{$ ", used.spelt, " == 1}` compares it");
         }
         (Needed::Piece, NameKind::Direction) => {
-            ": `{? up}` asks whether there is a way `up`, and `{! up}` whether there is none"
+            write_sample(
+                writer,
+                ": `{? ",
+                used.spelt,
+                "}` asks whether there is a way ",
+            );
+            writer.name(used.name);
+            write_sample(writer, ", and `{! ", used.spelt, "}` whether there is none");
         }
-        _ => "",
+        _ => {}
     }
+}
+
+/// Writes a name between words.
+fn write_sample(writer: &mut MessageWriter<'_>, before: &str, name: &[u8], after: &str) {
+    writer.text(before);
+    writer.bytes(name);
+    writer.text(after);
 }
 
 pub(crate) fn most_of(thing: Thing) -> usize {

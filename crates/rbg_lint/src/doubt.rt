@@ -33,9 +33,9 @@ pub enum Doubt {
     KeeperBegins {
         off: Position,
     },
-    /// After the `->>` at the position the keeper goes back in the rules without another switch, and puts a piece at a
-    /// position before, as a player does.
-    GoesBack {
+    /// After the `->>` at the position the keeper goes on in the rules without another switch, and puts a piece at the
+    /// position `off`, as a player does.
+    GoesOn {
         position: Position,
         off: Position,
     },
@@ -147,7 +147,7 @@ fn is_within(game: &Game, variable: Variable, value: i64) -> bool {
     0 <= value && value <= i64::from(bound)
 }
 
-/// Adds that the keeper puts a piece before any switch, and each `->>` after which it goes back.
+/// Adds that the keeper puts a piece before any switch, and each `->>` after which it puts one as a player does.
 fn push_keepers(alloc: Global, game: &Game, found: &mut Vec<Doubt>) -> Result<(), Memory> {
     game.is_accepted();
     let steps = compact(alloc, game)?;
@@ -158,9 +158,9 @@ fn push_keepers(alloc: Global, game: &Game, found: &mut Vec<Doubt>) -> Result<()
     for index in 0..game.positions() {
         let position = index as Position + 1;
         if is_keepers(game.action(position))
-            && let Some(off) = search.off_before(position)?
+            && let Some(off) = search.off_after(position)?
         {
-            found.push(Doubt::GoesBack { position, off })?;
+            found.push(Doubt::GoesOn { position, off })?;
         }
     }
     Ok(())

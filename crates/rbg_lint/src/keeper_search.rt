@@ -53,8 +53,8 @@ impl<'a> KeeperSearch<'a> {
                 reached.pending.push(position)?;
             }
         }
-        // (no position is below 0, so that all are met)
-        self.follow(0, &mut reached)?;
+        // (no position is known to be a player's yet, so no off ends the search)
+        self.follow(&mut reached)?;
         Ok(reached.is_met)
     }
 
@@ -62,18 +62,18 @@ impl<'a> KeeperSearch<'a> {
     pub fn first_off(&mut self) -> Result<Option<Position>, Memory> {
         let mut reached = self.nothing_reached()?;
         let steps = self.steps;
-        let off = self.meet_all(steps.first(Expr::Rules), Position::MAX, &mut reached)?;
+        let off = self.meet_all(steps.first(Expr::Rules), &mut reached)?;
         if off.is_some() {
             return Ok(off);
         }
-        self.follow(Position::MAX, &mut reached)
+        self.follow(&mut reached)
     }
 
-    /// The position of a player's off before a switch that is reached from it without another switch.
-    pub fn off_before(&mut self, switch: Position) -> Result<Option<Position>, Memory> {
+    /// The position of a player's off that is reached from a switch without another one.
+    pub fn off_after(&mut self, switch: Position) -> Result<Option<Position>, Memory> {
         let mut reached = self.nothing_reached()?;
         reached.pending.push(switch)?;
-        self.follow(switch, &mut reached)
+        self.follow(&mut reached)
     }
 
     /// A search before its first step.
@@ -88,18 +88,14 @@ impl<'a> KeeperSearch<'a> {
         Ok(reached)
     }
 
-    /// Follows the rules from the pending positions on.
-    fn follow(
-        &mut self,
-        switch: Position,
-        reached: &mut Reached,
-    ) -> Result<Option<Position>, Memory> {
+    /// Follows the rules from the pending positions on. Returns the position of a player's off, if it comes to one.
+    fn follow(&mut self, reached: &mut Reached) -> Result<Option<Position>, Memory> {
         for _ in 0..=self.game.positions() {
             let Some(position) = reached.pending.pop() else {
                 return Ok(None);
             };
             let steps = self.steps;
-            let off = self.meet_all(steps.next(position), switch, reached)?;
+            let off = self.meet_all(steps.next(position), reached)?;
             if off.is_some() || self.left == 0 {
                 return Ok(off);
             }
@@ -107,17 +103,16 @@ impl<'a> KeeperSearch<'a> {
         Ok(None)
     }
 
-    /// Goes to positions. Returns one of a player's off before the switch, if it comes to one.
+    /// Goes to positions. Returns one of a player's off, if it comes to one.
     fn meet_all(
         &mut self,
         positions: &[Position],
-        switch: Position,
         reached: &mut Reached,
     ) -> Result<Option<Position>, Memory> {
         for next in positions {
             self.left = self.left.saturating_sub(1);
             if meet(&mut reached.is_met, *next) {
-                if *next < switch && self.is_players_off(*next) {
+                if self.is_players_off(*next) {
                     return Ok(Some(*next));
                 }
                 if self.goes_on(*next) {

@@ -43,9 +43,9 @@ pub fn push_warnings(
     look: Look<'_>,
     found: &mut Vec<Diagnostic>,
 ) -> Result<(), AllocError> {
+    push_signs(alloc, look, found)?;
     push_stars(alloc, look, found)?;
     push_sums(alloc, look, found)?;
-    push_signs(alloc, look, found)?;
     push_parameters(alloc, look, found)
 }
 

@@ -3,6 +3,7 @@
 use crate::diagnostic::Diagnostic;
 use crate::look::{Look, new_warning};
 use crate::message_writer::MessageWriter;
+use crate::stars::is_rule;
 use rbg_macro::{Symbol, Token};
 use std::alloc::{AllocError, Global};
 
@@ -43,16 +44,11 @@ fn begins_item(token: &Token<'_>) -> bool {
         || token.is(Symbol::DoubleArrow)
 }
 
-/// The warning on a `+` after the item with an index, if it is written like a repetition: next to a closing bracket,
-/// and not next to what follows.
+/// The warning on the `+` after the token with an index, if it is written like a repetition.
 fn repetition_words(look: Look<'_>, index: usize) -> Option<Words> {
-    let item = look.flat.get(index)?;
-    let before = look.origin(index)?;
-    let plus = look.origin(index.saturating_add(1))?;
-    let end = before.at.saturating_add(item.text.len());
-    let is_next = item.is(Symbol::CloseParenthesis) && plus.at == end;
-    let next = look.text.get(plus.at.saturating_add(1))?;
-    if is_next && next.is_ascii_whitespace() {
+    let plus = index.saturating_add(1);
+    let is_repetition = is_like_repetition(look.text, look.origin(plus)?.at);
+    if is_repetition && is_rule(look.flat, plus) {
         Some((
             "Plus",
             "`+` is a choice between what is before it and after it: once or more is `x x*`",
@@ -60,6 +56,23 @@ fn repetition_words(look: Look<'_>, index: usize) -> Option<Words> {
     } else {
         None
     }
+}
+
+/// Whether the `+` at an offset is written like a repetition: next to a name or a closing parenthesis, and not next to what
+/// follows.
+pub(crate) fn is_like_repetition(text: &[u8], plus: usize) -> bool {
+    let Some(last) = plus.checked_sub(1) else {
+        return false;
+    };
+    match (text.get(last), text.get(plus.saturating_add(1))) {
+        (Some(before), Some(after)) => is_end(*before) && after.is_ascii_whitespace(),
+        _ => false,
+    }
+}
+
+/// Whether a name or what is in parentheses may end with a byte.
+fn is_end(byte: u8) -> bool {
+    byte == b')' || byte.is_ascii_alphanumeric()
 }
 
 /// Adds a warning on the token with an index, or on the one after it for a `+`.

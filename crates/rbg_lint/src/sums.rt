@@ -3,11 +3,13 @@
 use crate::diagnostic::Diagnostic;
 use crate::look::{Look, new_warning};
 use crate::message_writer::MessageWriter;
+use crate::signs::is_like_repetition;
 use crate::stars::{is_rule, place_at};
 use rbg_macro::Symbol;
 use std::alloc::{AllocError, Global};
 
-/// Adds each call of a macro whose `+` is a choice between more than what the macro puts.
+/// Adds each call of a macro whose `+` is a choice between more than what the macro puts. A `+` that is written like a
+/// repetition has a warning of its own.
 pub(crate) fn push_sums(
     alloc: Global,
     look: Look<'_>,
@@ -26,8 +28,9 @@ pub(crate) fn push_sums(
 /// The offset of the name of the call that puts a `+` outside brackets, if an item of the same sequence is before or after
 /// what the call puts.
 fn open_call(look: Look<'_>, plus: usize) -> Option<usize> {
-    let call = look.unrolled.call_of(look.origin(plus)?)?;
-    if !is_rule(look.flat, plus) {
+    let origin = look.origin(plus)?;
+    let call = look.unrolled.call_of(origin)?;
+    if !is_rule(look.flat, plus) || is_like_repetition(look.text, origin.at) {
         return None;
     }
     let first = first_of_call(look, plus, call.call, call.place)?;
