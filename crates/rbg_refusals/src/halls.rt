@@ -10,31 +10,32 @@ use crate::printing::Facts;
 use crate::stop::Stop;
 use crate::two_tables;
 use rbg_game::load;
-use rbg_hall::{Hall, HallError, HallEvent, HallOut, Table};
+use rbg_hall::{Hall, HallError, HallOut, Table};
+use rbg_script::Event;
 use rbg_serving::{BoundedLog, ListClock};
 use std::alloc::Global;
 use std::io::Write;
 
 /// The events of the hall. A line asks for a table that doesn't exist, two lines take the seats, so that the match
 /// begins, and white moves.
-const EVENTS: [HallEvent<'static>; 4] = [
-    HallEvent::Piece {
-        line: 2,
+const EVENTS: [Event<&'static [u8]>; 4] = [
+    Event::Piece {
+        source: 2,
         at: 0,
         bytes: b"H2\0",
     },
-    HallEvent::Piece {
-        line: 0,
+    Event::Piece {
+        source: 0,
         at: 0,
         bytes: b"H1\0",
     },
-    HallEvent::Piece {
-        line: 1,
+    Event::Piece {
+        source: 1,
         at: 5,
         bytes: b"H1\0",
     },
-    HallEvent::Piece {
-        line: 0,
+    Event::Piece {
+        source: 0,
         at: 10,
         bytes: b"M0 3 0 4 0 5\0",
     },
@@ -99,7 +100,7 @@ fn tables(alloc: Global) -> Result<Vec<Table>, Stop>
 /// Makes a hall of one table. If there are events, the run is about the last of them.
 fn make<W: Write>(
     alloc: Global,
-    events: &[HallEvent<'_>],
+    events: &[Event<&[u8]>],
     facts: &mut Facts<W>,
 ) -> Result<(), Stop> {
     let tables = tables(alloc)?;
@@ -152,7 +153,7 @@ fn hear<W: Write>(
     alloc: Global,
     hall: &mut Hall<BoundedLog>,
     out: &mut HallOut,
-    events: &[HallEvent<'_>],
+    events: &[Event<&[u8]>],
     facts: &mut Facts<W>,
 ) -> Result<(), Stop> {
     let Some((last, before)) = events.split_last() else {
@@ -168,7 +169,7 @@ fn hear<W: Write>(
 fn step_all(
     hall: &mut Hall<BoundedLog>,
     out: &mut HallOut,
-    events: &[HallEvent<'_>],
+    events: &[Event<&[u8]>],
 ) -> Result<(), Stop> {
     for event in events {
         hall.step(*event, out)?;
@@ -180,7 +181,7 @@ fn step_last<W: Write>(
     alloc: Global,
     hall: &mut Hall<BoundedLog>,
     out: &mut HallOut,
-    event: HallEvent<'_>,
+    event: Event<&[u8]>,
     facts: &mut Facts<W>,
 ) -> Result<(), Stop> {
     let mut queued = Vec::new(alloc);
@@ -194,7 +195,7 @@ fn tell_step<W: Write>(
     hall: &mut Hall<BoundedLog>,
     out: &mut HallOut,
     queued: &[Vec<u8>],
-    event: HallEvent<'_>,
+    event: Event<&[u8]>,
     facts: &mut Facts<W>,
 ) {
     if hall.step(event, out).is_ok() {

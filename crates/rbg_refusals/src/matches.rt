@@ -10,21 +10,22 @@ use crate::serving;
 use crate::stop::Stop;
 use rbg_base::Memory;
 use rbg_game::load;
-use rbg_match::{Config, Event, Match, MatchError, Outbox};
+use rbg_match::{Config, Match, MatchError, Outbox};
 use rbg_record::{write_record, write_record_1};
 use rbg_referee::{RefereeError, referee};
+use rbg_script::Event;
 use std::alloc::Global;
 use std::io::Write;
 
 /// What the seats send in the small game.
-const EVENTS: [Event<'static>; 2] = [
+const EVENTS: [Event<&'static [u8]>; 2] = [
     Event::Piece {
-        seat: 1,
+        source: 1,
         at: 10,
         bytes: WHITE,
     },
     Event::Piece {
-        seat: 2,
+        source: 2,
         at: 20,
         bytes: BLACK,
     },
@@ -37,8 +38,8 @@ const LONGEST: Config = Config {
 };
 
 /// White's move at the latest moment that a seat's bytes can have.
-const LATEST: Event<'static> = Event::Piece {
-    seat: 1,
+const LATEST: Event<&'static [u8]> = Event::Piece {
+    source: 1,
     at: u64::MAX,
     bytes: WHITE,
 };

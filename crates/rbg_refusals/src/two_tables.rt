@@ -7,7 +7,8 @@ use crate::printing::Facts;
 use crate::records;
 use crate::stop::Stop;
 use rbg_base::Memory;
-use rbg_hall::{Hall, HallEvent, HallOut, Table};
+use rbg_hall::{Hall, HallOut, Table};
+use rbg_script::Event;
 use rbg_serving::BoundedLog;
 use std::alloc::Global;
 use std::io::Write;
@@ -23,41 +24,41 @@ type Sizes = [usize; LINES];
 
 /// The events of the hall. Each match begins when its second line asks for it. White of match 2 moves before that, so
 /// it is refused, and no player moves in time. A third table doesn't exist, and a match that is over has no seat.
-const HEARD: [HallEvent<'static>; EVENTS] = [
-    HallEvent::Piece {
-        line: 0,
+const HEARD: [Event<&'static [u8]>; EVENTS] = [
+    Event::Piece {
+        source: 0,
         at: 0,
         bytes: b"H1\0",
     },
-    HallEvent::Piece {
-        line: 1,
+    Event::Piece {
+        source: 1,
         at: 0,
         bytes: b"H2\0",
     },
-    HallEvent::Piece {
-        line: 2,
+    Event::Piece {
+        source: 2,
         at: 5,
         bytes: b"H1\0",
     },
-    HallEvent::Piece {
-        line: 1,
+    Event::Piece {
+        source: 1,
         at: 6,
         bytes: b"M0 3 0 4 0 5\0",
     },
-    HallEvent::Piece {
-        line: 3,
+    Event::Piece {
+        source: 3,
         at: 6,
         bytes: b"H3\0",
     },
-    HallEvent::Piece {
-        line: 4,
+    Event::Piece {
+        source: 4,
         at: 7,
         bytes: b"H2\0",
     },
-    HallEvent::Tick { at: 1005 },
-    HallEvent::Tick { at: 1007 },
-    HallEvent::Piece {
-        line: 5,
+    Event::Tick { at: 1005 },
+    Event::Tick { at: 1007 },
+    Event::Piece {
+        source: 5,
         at: 1008,
         bytes: b"H1\0",
     },

@@ -1,6 +1,7 @@
 //! No message of one or two bytes is a move: the mover that sends it is sent a refusal, whatever the bytes are.
-use rbg_match::{Config, Event, MAX_REFUSALS};
+use rbg_match::{Config, MAX_REFUSALS};
 use rbg_referee::referee;
+use rbg_script::Event;
 use std::alloc::Global;
 use std::test::Fail;
 
@@ -53,7 +54,7 @@ fn refused(alloc: Global) -> Result<Vec<u8>, Fail> {
 /// Whether a match in which white sends these messages sends white this, and black nothing after the opening.
 fn is_sent(alloc: Global, messages: &[u8], sent: &[u8]) -> bool {
     let events = [Event::Piece {
-        seat: 1,
+        source: 1,
         at: 0,
         bytes: messages,
     }];

@@ -1,10 +1,11 @@
 -- What lines are, from what the readers of lines find.
 use Rattle.std.proofs.Common.{◌≡◌, ◌↔◌, ◌==◌, ℕ, List, [], ◌++◌, codes, length, Bool, true, false, IsTrue, Option, Some, None, IfSome, IfNone, ap, subst, ◌∙◌, refl, IsSomeAnd}
+use Rattle.std.specs.Global.{Vec}
 use Rattle.std.proofs.lemmas.Bool.{eq-eqb}
 use Rattle.rbg_script.specs.declared.config.ScriptConfig.{ScriptConfig}
 use Rattle.rbg_script.specs.Config.{SpellsConfig}
-use Rattle.rbg_script.specs.declared.event.ScriptEvent.{ScriptEvent}
-use Rattle.rbg_script.specs.Events.{AbstractEvent, SpellsEvent, event_of}
+use Rattle.rbg_script.specs.declared.event.Event.{Event}
+use Rattle.rbg_script.specs.Events.{SpellsEvent, AbstractEvent, owned_event_of}
 use Rattle.rbg_record.specs.declared.entry.Entry.TheVariants.{End as EndEntry}
 use Rattle.rbg_record.specs.declared.entry.Timed.{Timed}
 use Rattle.rbg_record.specs.declared.heading.Start.{Start}
@@ -53,14 +54,14 @@ not_silent line event over (passed_over h) = over h
 not_silent line event over (by_event e h) = event e h
 
 -- the event that is read of a line, and that there is no other one
-pub event_found : (line : List ℕ) (read : Option ScriptEvent) (event : ScriptEvent) → read ≡ Some event → IfSome read (λ e. SpellsEvent line (event_of e)) → SpellsEvent line (event_of event)
-event_found line read event is found = subst (λ r. IfSome r (λ e. SpellsEvent line (event_of e))) is found
+pub event_found : (line : List ℕ) (read : Option (Event (Vec ℕ))) (event : Event (Vec ℕ)) → read ≡ Some event → IfSome read (λ e. SpellsEvent line (owned_event_of e)) → SpellsEvent line (owned_event_of event)
+event_found line read event is found = subst (λ r. IfSome r (λ e. SpellsEvent line (owned_event_of e))) is found
 
-pub event_only : (line : List ℕ) (read : Option ScriptEvent) (event : ScriptEvent) → read ≡ Some event → ((other : AbstractEvent) → SpellsEvent line other → IsSomeAnd read (λ found. event_of found ≡ other)) → (other : AbstractEvent) → SpellsEvent line other → event_of event ≡ other
-event_only line read event is only = λ other spells. subst (λ r. IsSomeAnd r (λ found. event_of found ≡ other)) is (only other spells)
+pub event_only : (line : List ℕ) (read : Option (Event (Vec ℕ))) (event : Event (Vec ℕ)) → read ≡ Some event → ((other : AbstractEvent) → SpellsEvent line other → IsSomeAnd read (λ found. owned_event_of found ≡ other)) → (other : AbstractEvent) → SpellsEvent line other → owned_event_of event ≡ other
+event_only line read event is only = λ other spells. subst (λ r. IsSomeAnd r (λ found. owned_event_of found ≡ other)) is (only other spells)
 
-pub no_event : (line : List ℕ) (read : Option ScriptEvent) → read ≡ None → ((other : AbstractEvent) → SpellsEvent line other → IsSomeAnd read (λ found. event_of found ≡ other)) → (other : AbstractEvent) → SpellsEvent line other → ⊥
-no_event line read is only = λ other spells. subst (λ r. IsSomeAnd r (λ found. event_of found ≡ other)) is (only other spells)
+pub no_event : (line : List ℕ) (read : Option (Event (Vec ℕ))) → read ≡ None → ((other : AbstractEvent) → SpellsEvent line other → IsSomeAnd read (λ found. owned_event_of found ≡ other)) → (other : AbstractEvent) → SpellsEvent line other → ⊥
+no_event line read is only = λ other spells. subst (λ r. IsSomeAnd r (λ found. owned_event_of found ≡ other)) is (only other spells)
 
 -- what an event of a script holds
 pub event_line : (line : List ℕ) (event : AbstractEvent) (held : ListLine) → SpellsEvent line event → ((other : AbstractEvent) → SpellsEvent line other → event ≡ other) → HoldsEvent event held → IsLine line held

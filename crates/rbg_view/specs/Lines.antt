@@ -2,7 +2,7 @@
 use Rattle.std.specs.Prelude.{◌≡◌, ℕ, List, [], ◌∷◌, ◌++◌, codes}
 use Rattle.rbg_script.specs.declared.config.ScriptConfig.{ScriptConfig}
 use Rattle.rbg_script.specs.Config.{SpellsConfig}
-use Rattle.rbg_script.specs.Events.{AbstractEvent, SpellsEvent, piece_event}
+use Rattle.rbg_script.specs.Events.{SpellsEvent, AbstractEvent, piece}
 use Rattle.rbg_record.specs.declared.entry.Entry.TheVariants.{End as EndEntry}
 use Rattle.rbg_record.specs.declared.heading.Start.{Start}
 use Rattle.rbg_record.specs.declared.heading.Version.{Version}
@@ -34,7 +34,7 @@ pub data IsEnd (line : List ℕ) (end : RecordEnd) : Type 0 where
 -- The line is an event of a script in which a seat sends this text and the zero byte that ends a message, whether it is
 -- spelt by an `m` line or by a `p` line.
 abbrev pub SaysMessage : List ℕ → (seat : ℕ) → (text : List ℕ) → Type 0
-SaysMessage line seat text = (at : ℕ) × SpellsEvent line (piece_event seat at (text ++ 0 ∷ []))
+SaysMessage line seat text = (at : ℕ) × SpellsEvent line (piece seat at (text ++ 0 ∷ []))
 
 -- No message of a seat is in the line.
 abbrev pub HasNoMessage : List ℕ → Type 0

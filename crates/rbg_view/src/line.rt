@@ -2,7 +2,7 @@
 ghost use Rattle.std.specs.Prelude.{◌≡◌, ◌↔◌, ℕ, List, [], ◌∷◌, ◌++◌, IfOk, IfSome, IfNone, IsTrue, codes};
 ghost use Rattle.rbg_script.specs.declared.config.ScriptConfig.{ScriptConfig as AnyConfig};
 ghost use Rattle.rbg_script.specs.Config.{SpellsConfig};
-ghost use Rattle.rbg_script.specs.Events.{event_of};
+ghost use Rattle.rbg_script.specs.Events.{owned_event_of};
 ghost use Rattle.rbg_record.specs.declared.entry.Entry.TheVariants.{End as EndEntry};
 ghost use Rattle.rbg_record.specs.declared.heading.Start.{Start as AnyStart};
 ghost use Rattle.rbg_record.specs.Entries.{SpellsEntry, SpellsTimed};
@@ -15,7 +15,7 @@ ghost use Rattle.rbg_view.specs.internal.Holding.{HoldsEvent};
 
 use rbg_base::Memory;
 use rbg_record::{Entry, Version, read_entry, read_players, read_start, read_timed, read_version};
-use rbg_script::{ScriptEvent, read_config, read_event, read_message};
+use rbg_script::{Event, read_config, read_event, read_message};
 use rbg_wire::{Outcome, after_text};
 use std::alloc::Global;
 
@@ -70,10 +70,15 @@ impl<'a> ListLine<'a> {
     }
 
     /// What an event of a script holds.
-    fn of_event(event: ScriptEvent) -> ListLine<'a>
-        ensures { HoldsEvent (event_of event) result }
+    fn of_event(event: Event<Vec<u8>>) -> ListLine<'a>
+        ensures { HoldsEvent (owned_event_of event) result }
     {
-        let ScriptEvent::Piece { seat, bytes, .. } = event else {
+        let Event::Piece {
+            source: seat,
+            bytes,
+            ..
+        } = event
+        else {
             return ListLine::Silent;
         };
         match without_zero(bytes) {

@@ -1,6 +1,6 @@
 -- What a line holds that is an event of a script, and what is added to the moves that a line may mean.
 use Rattle.std.specs.Prelude.{◌≡◌, ℕ, List, [], ◌∷◌, ◌++◌}
-use Rattle.rbg_script.specs.Events.{AbstractEvent, piece_event}
+use Rattle.rbg_script.specs.Events.{AbstractEvent, piece}
 use Rattle.rbg_view.specs.declared.move_readings.Lead.{Lead}
 use Rattle.rbg_view.specs.declared.move_readings.Reading.{Reading}
 use Rattle.rbg_view.specs.Readings.{Means}
@@ -9,8 +9,8 @@ use Rattle.rbg_view.specs.declared.line.ListLine.TheVariants.{Silent, Head, End,
 
 -- A message, if the event is a piece whose last byte is zero; else nothing of moves.
 abbrev pub HoldsEvent : AbstractEvent → ListLine → Type 0
-HoldsEvent event Silent = (seat at : ℕ) (text : List ℕ) → event ≡ piece_event seat at (text ++ 0 ∷ []) → ⊥
-HoldsEvent event (Sent seat text) = (at : ℕ) × (event ≡ piece_event seat at (text.items ++ 0 ∷ []))
+HoldsEvent event Silent = (seat at : ℕ) (text : List ℕ) → event ≡ piece seat at (text ++ 0 ∷ []) → ⊥
+HoldsEvent event (Sent seat text) = (at : ℕ) × (event ≡ piece seat at (text.items ++ 0 ∷ []))
 HoldsEvent event (Said seat text) = ⊥
 HoldsEvent event (Head version) = ⊥
 HoldsEvent event (End end) = ⊥
