@@ -35,6 +35,12 @@ GOLD = """#players = one(2), two(2)
 #board = rectangle(up,down,left,right,[e,e])
 #rules = ->one {e} [x] ([$ gold = 1] + [$ gold = 2]) ->two ([$ passes = passes + 1] + right {e} [x]) ->> {}
 """
+# two moves that only their pairs tell apart
+ALIKE = """#players = one(2), two(2)
+#pieces = e, x
+#board = rectangle(up,down,left,right,[e,e])
+#rules = ->one {e} [x] ([$ one = 1] + [$ one = 2 - 1]) ->> {}
+"""
 # a fault far to the right in a long line
 LONG = PUT.replace("#rules = ", "#rules = " + "(->one any {e} [x] ->two any {e} [o]) " * 4 + "(->one rigth {e} [x]) ")
 
@@ -103,7 +109,7 @@ def try_undo(words, page):
         page.until("return !document.getElementById('go-on').hidden")
         at = place_of(page)[0]
         stays(page, "undo", at)
-        if not page.text("#turn").endswith(": it waits"):
+        if not page.text("#turn").endswith(" is to move, and waits"):
             sys.exit(f"undo: of a program that waits is said {page.text('#turn')!r}")
         page.picture(words.folder / "waits.png")
         page.click("#undo")
@@ -390,6 +396,10 @@ def try_focus(words, page):
 
 def try_values(words, page):
     """Moves that differ only by a variable say what they set, and so does a pass."""
+    with own_game(words, page, ALIKE):
+        click_square(page, 0)
+        fail_unless("values", label_of(page), ["0 3 0 4 0 6", "0 3 0 5 0 6"], "what the buttons say")
+        leave(page, "values")
     with own_game(words, page, GOLD):
         click_square(page, 0)
         fail_unless("values", label_of(page), ["gold 1", "gold 2"], "what the buttons say")

@@ -174,7 +174,7 @@ const RbgPlay = (() => {
     if (!standing.scores && !standing.fault && chosen.length > 0) text += ': ' + chosen.map(vertex => drawing.layout.names[vertex]).join(', ');
     if (isCut) text += ' (not all moves are listed)';
     const waits = isPaused && standing.player > 0 && !isPerson(standing.player);
-    if (waits) text += ': it waits';
+    if (waits) text += ', and waits';
     get('go-on').hidden = !waits;
     get('turn').textContent = text;
     get('turn').dataset.player = standing.player;
@@ -661,7 +661,7 @@ const RbgPlay = (() => {
   const showNotes = notes => {
     shownNotes = notes;
     const parts = [];
-    for (const line of notes.split(LINE)) {
+    for (const line of notes.trimEnd().split(LINE)) {
       const kind = /^ *[0-9]* [|]/.test(line) ? 'excerpt' : 'message';
       if (parts.length === 0 || parts[parts.length - 1].className !== kind) {
         parts.push(document.createElement('div'));
