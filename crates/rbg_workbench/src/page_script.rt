@@ -130,11 +130,12 @@ const RbgPlay = (() => {
   /* The moves that begin with some clicks. */
   const fitting = clicks => legal.filter(move => waysFrom(move, clicks).length > 0);
 
-  /* Shows all. A new drawing comes onto the page once its pieces are there. */
+  /* Shows all. A new drawing comes onto the page once its pieces are there. If a button that the keys have pressed goes, they lead
+     to the board. */
   const show = () => {
     const step = steps[at];
     if (!step) return;
-    const held = document.activeElement;
+    const held = document.querySelector('button:focus-visible');
     const person = isPerson(step.standing.player);
     const fits = fitting(chosen);
     next = new Set(person ? fits.flatMap(move => waysFrom(move, chosen).map(way => way[chosen.length])).filter(vertex => vertex !== undefined) : []);
@@ -146,7 +147,7 @@ const RbgPlay = (() => {
     showTurn(step);
     showChoices(person ? fits : []);
     showLists(step);
-    if (held && (held.disabled || held.hidden || !held.isConnected)) drawing.svg.focus({ preventScroll: true });
+    if (held && (held.hidden || !held.isConnected)) drawing.svg.focus({ preventScroll: true });
     keepMatch();
     document.body.dataset.at = at;
     document.body.dataset.ready = isBusy ? 'no' : 'yes';
@@ -450,7 +451,7 @@ const RbgPlay = (() => {
     const onBoard = drawing.svg.contains(target);
     const arrow = { ArrowLeft: [-1, 0], ArrowRight: [1, 0], ArrowUp: [0, -1], ArrowDown: [0, 1] }[event.key];
     const acts = {
-      Home: () => goTo(() => 0), End: () => goTo(() => steps.length - 1), u: undo, r: redo, Backspace: undo, g: resume,
+      Home: () => goTo(() => 0), End: () => goTo(() => steps.length - 1), u: undo, r: redo, Backspace: undo, g: () => { if (isPaused) resume(); },
       h: () => hint(), Escape: () => { chosen = []; hinted = []; show(); }, '+': () => zoomBy(1.25), '-': () => zoomBy(0.8),
       b: () => focus(focused),
     };
@@ -495,7 +496,7 @@ const RbgPlay = (() => {
     if (!step || isBusy || isPaused || !step.standing.player || isPerson(step.standing.player) || legal.length === 0) return;
     const mine = thinking += 1;
     setTimeout(() => { if (mine === thinking) inTurn(async () => {
-      if (mine !== thinking) return;
+      if (mine !== thinking || isPaused || step !== steps[at]) return;
       const kind = get('side-' + step.standing.player).value;
       const move = kind === 'think' ? await best(Number(get('patience').value) || 500, () => mine === thinking) : legal[Math.floor(Math.random() * legal.length)];
       if (!move || mine !== thinking) return;
