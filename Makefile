@@ -118,7 +118,7 @@ page:
 	@test -x ./rbg && test -x ./rbg_author || { echo 'make page needs ./rbg and ./rbg_author: run make build first'; exit 1; }
 	@python3 tools/page/contrast.py
 	@python3 tools/page/page.py
-	@if python3 -c 'import sys; sys.path.insert(0, "tools/page"); import browser; sys.exit(not browser.is_there())'; then python3 tools/page/wrong.py && python3 tools/page/playing.py && python3 tools/page/working.py && python3 tools/page/reading.py; else echo 'no game is played by clicks: there is no chromium with its driver'; fi
+	@if python3 -c 'import sys; sys.path.insert(0, "tools/page"); import browser; sys.exit(not browser.is_there())'; then python3 tools/page/wrong.py && python3 tools/page/playing.py && python3 tools/page/working.py && python3 tools/page/habits.py && python3 tools/page/reading.py; else echo 'no game is played by clicks: there is no chromium with its driver'; fi
 
 # The library for programs in C, and its trials: TEXTS random texts are spoilt, and CALLS random calls are made.
 TEXTS := 10000

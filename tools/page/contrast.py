@@ -10,6 +10,7 @@ import re
 import sys
 
 STYLE = pathlib.Path("crates/rbg_view/src/style.rt")
+PAGE = pathlib.Path("crates/rbg_workbench/src/page.rt")
 SCRIPT = pathlib.Path("crates/rbg_view/src/script.rt")
 # the colours of texts, and of frames, each with those that lie below them
 TEXTS = {"ink": ["page"], "soft": ["page"], "mark": ["page"]}
@@ -57,6 +58,11 @@ def main() -> None:
                     found = contrast(colours[front], colours[ground])
                     if found < least:
                         faults.append(f"{theme}: {front} on {ground}: {found:.2f}, and not {least}")
+    page = PAGE.read_text()
+    for name in sorted({*re.findall(r"[ ;{]color: var\(--([a-z]+)\)", page)} - set(TEXTS)):
+        faults.append(f"the page has texts of the colour {name}, of which nothing is known")
+    if not re.search(r"#problem\[data-kind=quiet\] { color: var\(--soft\); }", page):
+        faults.append("what is said that is no fault has no quiet colour")
     script = SCRIPT.read_text()
     limit = float(re.search(r"0\.0722 \* blue < ([0-9.]+);", script).group(1))
     colours = re.search(r"const COLOURS = \{(.*?)\};\n.*?const SPARE = \[(.*?)\];", script, re.S)

@@ -125,8 +125,11 @@ def play_chess(words, page):
         page.open(server.link)
         ready(page, 0)
         for at, reported in enumerate(CHESS, 1):
-            for name in (reported[:2], reported[2:4]):
+            # a rook is clicked before its king, which is chosen then, and doesn't castle with it
+            for name in (*(["h1"] if reported == "e1g1" else []), reported[:2], reported[2:4]):
                 click_square(page, vertex_of(page, name))
+                if name == "e1" and page.run("return RbgPlay.state().chosen") != [vertex_of(page, "e1")]:
+                    sys.exit(f"chess: after a click on e1 there is chosen {page.run('return RbgPlay.state().chosen')}")
             if reported[4:]:
                 page.picture(words.folder / "chess_promotion.png")
                 promote(page, "wb"[at % 2 == 0] + reported[4])
@@ -186,7 +189,7 @@ def play_pass(words, page):
 
 
 def play_alike(words, page):
-    """Moves that nothing but their pairs tells apart, and moves that set different variables."""
+    """Moves that nothing but what they set tells apart, once one variable and once different ones."""
     with tempfile.TemporaryDirectory() as folder:
         game = pathlib.Path(folder) / "alike.rbg"
         game.write_text(ALIKE)
@@ -195,19 +198,19 @@ def play_alike(words, page):
             ready(page, 0)
             click_square(page, 0)
             labels = "return Array.from(document.querySelectorAll('#choices .choice')).map(one => one.textContent)"
-            if (found := page.run(labels)) != ["0 3 0 4 0 6", "0 3 0 5 0 6"]:
+            if (found := page.run(labels)) != ["one 1", "one 2"]:
                 sys.exit(f"alike: the buttons are {found}")
             page.picture(words.folder / "alike.png")
             page.click("[data-pairs='0 3 0 5 0 6']")
             ready(page, 1)
-            if (found := page.run(labels)) != ["one at a1", "two at a1"]:
+            if (found := page.run(labels)) != ["one 0", "two 1"]:
                 sys.exit(f"alike: the buttons are {found}")
             page.click("[data-pairs='0 8 0 9']")
             ready(page, 2)
             if "a draw" in page.text("#turn") or "one 2, two 1" not in page.text("#turn"):
                 sys.exit(f"alike: it ended so: {page.text('#turn')}")
             leave(page, "alike")
-    print("alike: buttons have the pairs of moves that nothing else tells apart", flush=True)
+    print("alike: buttons say what moves set that nothing else tells apart", flush=True)
 
 
 def main():

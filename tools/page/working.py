@@ -75,15 +75,16 @@ def try_edits(words, page):
             if "never" not in page.text("#notes"):
                 sys.exit(f"no warning is listed: {page.text('#notes')!r}")
             page.picture(words.folder / "warned.png")
-            # a rule by which the first move is none: it is left out
+            # a rule by which the first move is none: both are kept for later
             turns = re.search(r"->white \((turn\(.*\)) (turn\(.*\))\)", text)
             game.write_text(text.replace(turns.group(), f"->black ({turns.group(2)} {turns.group(1)})"))
             version_comes(page, 3)
             ready(page, 0)
-            if (told := page.text("#problem")) != "the rules have changed: move 1 of 2 is not legal now":
+            if (told := page.text("#problem")) != "the rules have changed: move 1 of 2 is not legal now, and kept for Redo":
                 sys.exit(f"of moves that are left out is told {told!r}")
             game.write_text(text)
             version_comes(page, 4)
+            ready(page, 2)
             opened(page, "a list", "\n".join(["// a list", *moves]), "a list: 6 moves")
             other = page.run("return fetch('/ask', {method: 'POST', body: 'back'}).then(answer => answer.status)")
             make_by_clicks(page, moves_of(DATA / "breakthrough.moves")[len(moves)], len(moves) + 1)
@@ -91,7 +92,7 @@ def try_edits(words, page):
     print(f"edits: moves are kept as far as they are legal; another page's question ({other}) does no harm", flush=True)
 
 
-ENABLED = "return Array.from(document.querySelectorAll('button, input[type=file]')).filter(one => !one.disabled).map(one => one.id)"
+ENABLED = "return Array.from(document.querySelectorAll('button, input[type=file]')).filter(one => !one.disabled && !one.hidden).map(one => one.id)"
 DROP = """
 const given = new DataTransfer();
 given.items.add(new File([arguments[1]], arguments[0]));
@@ -162,15 +163,13 @@ def try_files(words, page):
         drops(page, "a.script", (DATA / "breakthrough.script").read_text(), "a.script: 57 moves")
         drops(page, "a.moves", "\n".join(moves[:4]), "a.moves: 4 moves")
         drops(page, "d.moves", f"1 {moves[0]}\n2000 2 {moves[1]}\nmove 1 {moves[2]}\n", "d.moves: 3 moves")
-        drops(page, "b.moves", "\n".join([*moves[:2], moves[0]]), "b.moves: move 3 is not legal here")
+        drops(page, "b.moves", "\n".join([*moves[:2], moves[0]]), "b.moves: move 3, in line 3: it is not legal here")
         drops(page, "c.moves", "nothing of that kind\n", "c.moves: it has no moves")
         page.send("#file", str(record))
         ready(page, 9)
         page.ask("POST", "/refresh", {})
-        ready(page, 0)
-        made = page.run("return RbgPlay.state().legal.some(move => move.pairs.join(' ') === arguments[0])", moves[0])
-        if not made:
-            sys.exit("a page that is loaded again doesn't begin at the beginning")
+        ready(page, 9)
+        replay(words, game, record_of(page))
         leave(page, "files")
     print("files: a record and a position are saved, and records, scripts and lists are opened", flush=True)
 

@@ -2,6 +2,7 @@
 
 use crate::answer::{HttpStatus, Reply};
 use crate::page::{BODY, END, HEAD};
+use crate::page_moves::MOVES_SCRIPT;
 use crate::page_script::PLAY_SCRIPT;
 use crate::reader::{Described, Reader, Reading};
 use crate::request::{Method, Request};
@@ -26,8 +27,11 @@ pub(crate) struct Bench<'a, F: Files + Drop, R: Reader + Drop> {
     files: F,
     reader: R,
     file: &'a str,
-    /// The text of the file, as it was read last.
+    /// The text of the file that was taken last, and whether the file held it when it was read last.
     text: Vec<u8>,
+    is_taken: bool,
+    /// Whether the file couldn't be read the last time.
+    is_missing: bool,
     /// Whether this text was refused, and what is said of it.
     is_refused: bool,
     notes: Vec<u8>,
@@ -54,6 +58,8 @@ impl<'a, F: Files + Drop, R: Reader + Drop> Bench<'a, F, R> {
             reader,
             file,
             text: Vec::new(alloc),
+            is_taken: false,
+            is_missing: false,
             is_refused: true,
             notes: Vec::new(alloc),
             shown: Vec::new(alloc),
@@ -71,28 +77,33 @@ impl<'a, F: Files + Drop, R: Reader + Drop> Bench<'a, F, R> {
 
     /// Reads the file again. Returns whether it could be read.
     fn read_file(&mut self) -> Result<bool, AllocError> {
-        match self.files.read_file(self.alloc, self.file, MAX_TEXT)? {
-            Input::Whole(text) => {
-                self.take_text(text)?;
-                Ok(true)
-            }
-            Input::TooLong => {
-                self.notes = self.reader.refuse_long(self.alloc, self.file)?;
-                self.is_refused = true;
-                Ok(true)
-            }
-            Input::Device => Ok(false),
+        let input = self.files.read_file(self.alloc, self.file, MAX_TEXT)?;
+        self.is_missing = matches!(input, Input::Device);
+        match input {
+            Input::Whole(text) => self.take_text(text)?,
+            Input::TooLong => self.refuse_long()?,
+            Input::Device => {}
         }
+        Ok(!self.is_missing)
+    }
+
+    /// Refuses what the file holds, since it is too long.
+    fn refuse_long(&mut self) -> Result<(), AllocError> {
+        self.notes = self.reader.refuse_long(self.alloc, self.file)?;
+        self.is_refused = true;
+        self.is_taken = false;
+        Ok(())
     }
 
     /// Takes a text of the file, if it is another one.
     fn take_text(&mut self, text: Vec<u8>) -> Result<(), AllocError> {
-        if self.stamp > 0 && text.as_slice() == self.text.as_slice() {
+        if self.is_taken && text.as_slice() == self.text.as_slice() {
             return Ok(());
         }
         self.stamp = self.stamp.saturating_add(1);
         let reading = self.reader.read(self.alloc, self.file, &text)?;
         self.text = text;
+        self.is_taken = true;
         self.take_reading(reading)
     }
 
@@ -156,6 +167,7 @@ impl<'a, F: Files + Drop, R: Reader + Drop> Bench<'a, F, R> {
     fn push_state(&self, text: &mut Vec<u8>) -> Result<Reply, AllocError> {
         push_count(b"version ", self.version, text)?;
         push_count(b"refused ", u64::from(self.is_refused), text)?;
+        push_count(b"missing ", u64::from(self.is_missing), text)?;
         push_count(b"stamp ", self.stamp, text)?;
         push_count(b"made ", self.moves_made(), text)?;
         text.extend_from_slice(b"notes\n")?;
@@ -263,7 +275,15 @@ fn is_after(path: &str, stamp: u64) -> bool {
 
 /// Appends the page.
 fn push_page(text: &mut Vec<u8>) -> Result<Reply, AllocError> {
-    for part in [HEAD, BOARD_STYLE, BODY, BOARD_SCRIPT, PLAY_SCRIPT, END] {
+    for part in [
+        HEAD,
+        BOARD_STYLE,
+        BODY,
+        BOARD_SCRIPT,
+        MOVES_SCRIPT,
+        PLAY_SCRIPT,
+        END,
+    ] {
         text.extend_from_slice(part)?;
     }
     Ok(Reply::page())

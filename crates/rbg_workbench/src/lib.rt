@@ -7,6 +7,7 @@ mod browser;
 mod connection;
 mod move_list;
 mod page;
+mod page_moves;
 mod page_script;
 mod reader;
 mod request;

@@ -38,8 +38,13 @@ ul, ol { list-style: none; margin: 0; padding: 0; }
 #moves .now { background: var(--now); color: #111; }
 #moves .later { color: var(--soft); }
 #spot { color: var(--soft); }
-#problem, #lost { color: var(--mark); margin: .3rem 0; min-height: 1.4rem; }
-#notes { white-space: pre-wrap; overflow-wrap: anywhere; font: .85rem/1.35 ui-monospace, monospace; margin: .4rem 0; padding: .5rem; border-left: 4px solid var(--rule); }
+#problem, #lost { color: var(--mark); margin: .3rem 0; min-height: 1.4rem; overflow-wrap: anywhere; }
+#problem[data-kind=quiet] { color: var(--soft); }
+#stale { margin: 0 0 .3rem; padding: .1rem .5rem; border-left: 4px solid var(--mark); color: var(--mark); overflow-wrap: anywhere; }
+#stale:empty { display: none; }
+#notes div { white-space: pre-wrap; overflow-wrap: anywhere; }
+#notes .excerpt { white-space: pre; overflow: auto hidden; }
+#notes { font: .85rem/1.35 ui-monospace, monospace; margin: .4rem 0; padding: .5rem; border-left: 4px solid var(--rule); }
 #notes[data-kind=refused] { border-color: var(--mark); }
 #notes[data-kind=warned] { border-color: var(--now); }
 #notes[data-kind=quiet] { display: none; }
@@ -60,12 +65,14 @@ details { color: var(--soft); }
 <div class='bar'><button id='farther' disabled title='smaller (-)' aria-label='smaller'>-</button><button id='nearer' disabled title='larger (+)' aria-label='larger'>+</button><span id='spot' role='status'></span></div>
 </div>
 <div>
+<p id='stale' role='status'></p>
 <p id='turn-line'><span id='turn-sign'></span><span id='turn' role='status' aria-live='polite'></span></p>
 <div id='choices'></div>
 <div class='bar'>
 <button id='first' disabled title='from the beginning (Home)'>&laquo; Beginning</button>
 <button id='undo' disabled title='undo (u, arrow left)'>&lsaquo; Undo</button>
 <button id='redo' disabled title='redo (r, arrow right)'>Redo &rsaquo;</button>
+<button id='go-on' hidden title='the programs go on (g)'>Go on</button>
 <button id='hint' disabled title='a hint (h)'>Hint</button>
 </div>
 <div class='bar'><div id='sides'></div><label>playouts for <input id='patience' type='number' min='50' max='60000' step='50' value='500'> ms</label></div>
@@ -73,9 +80,9 @@ details { color: var(--soft); }
 <ol id='moves' aria-label='moves'></ol>
 <p id='problem' role='status'></p>
 <p id='lost' hidden>The program has ended: nothing answers.</p>
-<pre id='notes' data-kind='quiet'></pre>
+<div id='notes' data-kind='quiet'></div>
 <div class='bar'><button id='save' disabled>Save the record</button><button id='save-position' disabled>Save the position</button><label class='file'>Open a record<input id='file' disabled type='file' aria-label='Open a record or a list of moves'></label></div>
-<details><summary>Keys</summary><p>Tab or b leads to the board. There the arrows go from square to square, and Enter chooses. Elsewhere the arrows undo and redo. u: undo, r: redo, h: a hint, Home: from the beginning, End: the last move, Escape: takes a choice back, + and -: the size.</p></details>
+<details><summary>Clicks and keys</summary><p>A click on a square framed blue chooses it, and marks what can come next. The second click makes the move, and one on the first square takes it back. A move of one square is made at once. Undo and Redo lead to where a person is to move; where programs wait, they go on by the button Go on.</p><p>Tab or b leads to the board. There the arrows go from square to square, and Enter chooses as a click does. Elsewhere the arrows undo and redo. u: undo, r: redo, g: programs that wait go on, h: a hint, Home: from the beginning, End: the last move, Escape: takes a choice back, + and -: the size.</p></details>
 <details><summary>The rules as they are written</summary><pre id='rules'></pre></details>
 </div>
 </main>

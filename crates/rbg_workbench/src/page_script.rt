@@ -1,9 +1,10 @@
 //! The script of the page on which a game is played by hand: what is asked of the server, and what a click does.
 
-/// The script. It needs `RbgBoard`, and holds no byte that begins or ends a string of this language.
+/// The script. It needs `RbgBoard` and `RbgMoves`, and holds no byte that begins or ends a string of this language.
 pub(crate) const PLAY_SCRIPT: &[u8] = b"'use strict';
 const RbgPlay = (() => {
   const { LINE } = RbgBoard;
+  const { reader, standingOf, waysFrom, isDone, spellSettings } = RbgMoves;
   const get = id => document.getElementById(id);
 
   /* What is known of the server and of the game. */
@@ -11,11 +12,13 @@ const RbgPlay = (() => {
   let version = -1;
   let game = null;
   let drawing = null;
-  let isRefused = false;
+  let shownNotes = '';
 
-  /* The line of play: steps[k] is what stands after k moves. Only the present step has its legal moves. */
+  /* The line of play: steps[k] is what stands after k moves. Only the present step has its legal moves. Steps after it that are old
+     were made by other rules, and may not be legal now. `meant` is where one would stand if they all were. */
   let steps = [];
   let at = 0;
+  let meant = 0;
   let legal = [];
   let isCut = false;
 
@@ -27,6 +30,11 @@ const RbgPlay = (() => {
   let hinted = [];
   let isBusy = false;
   let isLooking = false;
+  /* Whether programs wait, since one has gone back. */
+  let isPaused = false;
+
+  /* Says what is wrong, or something else. */
+  const say = (text, kind = 'fault') => { get('problem').textContent = text; get('problem').dataset.kind = kind; };
 
   /* Asks lines, and gives the lines of the answers. The server says no where another page has asked since. */
   const post = async (path, body) => {
@@ -50,7 +58,7 @@ const RbgPlay = (() => {
     const state = await stateOf();
     stamp = state.stamp;
     const questions = state.made > 0 ? ['back ' + state.made] : [];
-    for (const step of steps.slice(1, at + 1)) questions.push('make ' + step.pairs.join(' '));
+    questions.push(...steps.slice(1, at + 1).map(makeLine));
     if (questions.length > 0) { await post('/ask?after=' + stamp, questions.join(LINE) + LINE); stamp += 1; }
   };
 
@@ -60,30 +68,6 @@ const RbgPlay = (() => {
     const state = { notes };
     for (const line of head.split(LINE)) { const [word, value] = line.split(' '); state[word] = Number(value); }
     return state;
-  };
-
-  /* A reader of the lines of answers. */
-  const reader = lines => {
-    let next = 0;
-    const numbers = line => line.split(' ').slice(1).map(Number);
-    return {
-      line: () => lines[next++],
-      numbers: () => numbers(lines[next++]),
-      moves: () => {
-        const [word, count, cut] = lines[next++].split(' ');
-        if (word !== 'moves') return { moves: [], cut: true };
-        const moves = lines.slice(next, next + Number(count)).map(line => line.split(' ').map(Number));
-        next += Number(count);
-        return { moves, cut: cut === 'cut' };
-      },
-    };
-  };
-
-  const standingOf = line => {
-    const [word, ...numbers] = line.split(' ');
-    if (word === 'player') return { player: Number(numbers[0]), scores: null, fault: null };
-    if (word === 'finished') return { player: 0, scores: numbers.map(Number), fault: null };
-    return { player: 0, scores: null, fault: line };
   };
 
   const STAND = ['board', 'values'];
@@ -117,57 +101,10 @@ const RbgPlay = (() => {
     return parts.filter(part => part !== '').join(', ');
   };
 
-  const isPass = pairs => pairs.length === 2 && !legal.some(move => move !== pairs && move.pairs !== pairs && move.pairs.length === 2 && move.pairs[1] === pairs[1] && move.pairs[0] !== pairs[0]);
+  /* Whether a move is the only one that changes no piece. */
+  const isPass = move => move.changed.length === 0 && legal.every(other => other === move || other.changed.length > 0);
 
-  /* The ways in which the squares that a move changes are clicked: for each piece of the mover that leaves a square, from there,
-     to where its pieces arrive, the farthest first, and then what else changes. */
-  const waysOf = (changed, mover) => {
-    const isMine = piece => drawing.looks[piece].owner === mover && !drawing.looks[piece].hidden;
-    const isNobodys = piece => !drawing.looks[piece].hidden && drawing.looks[piece].owner === 0;
-    const rank = ({ was, is }) => isMine(is) && !isMine(was) ? (drawing.looks[was].hidden ? 1 : 1.5) : isNobodys(is) ? 2 : 3;
-    const far = (one, other) => Math.hypot(...[0, 1].map(axis => drawing.layout.places[one][axis] - drawing.layout.places[other][axis]));
-    const after = (first, others) => others
-      .map((change, index) => [rank(change), first && rank(change) === 1 ? -far(first.vertex, change.vertex) : 0, index, change.vertex])
-      .sort((one, two) => one[0] - two[0] || one[1] - two[1] || one[2] - two[2]).map(part => part[3]);
-    const left = changed.filter(({ was, is }) => isMine(was) && !isMine(is));
-    if (left.length === 0 || changed.length < 2) return [after(null, changed)];
-    return left.map(first => [first.vertex, ...after(first, changed.filter(change => change !== first))]);
-  };
-
-  /* Finds the squares of a move, in each way, and those of its other pairs. */
-  const findSquares = move => {
-    const { changed, pairs } = move;
-    move.ways = waysOf(changed, steps[at].standing.player);
-    const [squares] = move.ways;
-    move.others = [];
-    for (let one = 0; one < pairs.length; one += 2) if (!squares.includes(pairs[one]) && !move.others.includes(pairs[one])) move.others.push(pairs[one]);
-  };
-
-  /* Leaves out the ways on which another move would be done before, if there are others: who castles begins with the king. */
-  const chooseWays = () => {
-    const done = new Set(legal.filter(move => move.ways.length === 1).map(move => move.ways[0].join(' ')));
-    const isOwn = way => !way.some((_, at) => at > 0 && done.has(way.slice(0, at).join(' ')));
-    for (const move of legal) if (move.ways.length > 1 && move.ways.some(isOwn)) move.ways = move.ways.filter(isOwn);
-  };
-
-  /* Finds what is clicked for each move. Where squares alone don't tell moves apart, those of their other pairs are clicked too. */
-  const findClicks = () => {
-    legal.forEach(findSquares);
-    chooseWays();
-    const keys = new Map();
-    for (const move of legal) {
-      const key = move.ways[0].join(' ');
-      if (keys.has(key)) keys.get(key).push(move); else keys.set(key, [move]);
-    }
-    for (const [key, same] of keys) {
-      const differ = same.length > 1 && new Set(same.map(move => move.others.join(' '))).size > 1;
-      const isPlain = differ && key === '' && same.length < 5 && new Set(same.map(move => move.pairs.filter((_, one) => one % 2 === 1).join(' '))).size === same.length;
-      for (const move of same) {
-        if (differ && !isPlain) move.ways = move.ways.map(way => [...way, ...move.others]);
-        move.clicks = move.ways[0];
-      }
-    }
-  };
+  const findClicks = () => RbgMoves.findClicks(drawing, legal, steps[at].standing.player);
 
   const prepare = (moves, board) => {
     legal = moves.map(pairs => ({ pairs, changed: RbgBoard.changes(game, board, pairs) }));
@@ -175,14 +112,30 @@ const RbgPlay = (() => {
     findClicks();
   };
 
-  /* The ways of a move that begin with some clicks, and the moves that have such. */
-  const waysFrom = (move, clicks) => move.ways.filter(way => clicks.every((vertex, index) => way[index] === vertex));
+  /* Asks for the values after those moves whose buttons may have to say them. */
+  const askValues = async () => {
+    const moves = game.variables.length > 0 ? RbgMoves.inNeedOfValues(legal) : [];
+    if (moves.length === 0) return;
+    const lines = reader(await ask(moves.flatMap(move => [makeLine(move), 'values', 'back'])));
+    for (const move of moves) {
+      /* (`back` after a move that fails takes another one back) */
+      if (lines.line().startsWith('error')) { await follow(); return; }
+      move.after = lines.numbers();
+      lines.line();
+    }
+  };
+
+  const makeLine = ({ pairs }) => 'make ' + pairs.join(' ');
+
+  /* The moves that begin with some clicks. */
   const fitting = clicks => legal.filter(move => waysFrom(move, clicks).length > 0);
 
-  /* Shows all. A new drawing comes onto the page once its pieces are there. */
+  /* Shows all. A new drawing comes onto the page once its pieces are there. If a button that the keys have pressed goes, they lead
+     to the board. */
   const show = () => {
     const step = steps[at];
     if (!step) return;
+    const held = document.querySelector('button:focus-visible');
     const person = isPerson(step.standing.player);
     const fits = fitting(chosen);
     next = new Set(person ? fits.flatMap(move => waysFrom(move, chosen).map(way => way[chosen.length])).filter(vertex => vertex !== undefined) : []);
@@ -194,6 +147,8 @@ const RbgPlay = (() => {
     showTurn(step);
     showChoices(person ? fits : []);
     showLists(step);
+    if (held && (held.hidden || !held.isConnected)) drawing.svg.focus({ preventScroll: true });
+    keepMatch();
     document.body.dataset.at = at;
     document.body.dataset.ready = isBusy ? 'no' : 'yes';
   };
@@ -219,6 +174,9 @@ const RbgPlay = (() => {
     if (standing.fault) text = { 'error over': 'a question about this place is above the limits of play', 'error keeper': 'the keeper makes 1,000 moves in a row', 'error memory': 'out of memory' }[standing.fault] || standing.fault;
     if (!standing.scores && !standing.fault && chosen.length > 0) text += ': ' + chosen.map(vertex => drawing.layout.names[vertex]).join(', ');
     if (isCut) text += ' (not all moves are listed)';
+    const waits = isPaused && standing.player > 0 && !isPerson(standing.player);
+    if (waits) text += ', and waits';
+    get('go-on').hidden = !waits;
     get('turn').textContent = text;
     get('turn').dataset.player = standing.player;
     const own = get('turn-sign');
@@ -235,18 +193,24 @@ const RbgPlay = (() => {
     return made;
   };
 
-  /* Buttons: for moves that have the same squares, and for those that have none. Those that read alike show their pairs too. */
+  /* Buttons: for moves that have the same squares, and for those that have none. Those that read alike say what they set too, and
+     if that is alike their pairs. */
   const showChoices = fits => {
     const box = get('choices');
     box.replaceChildren();
-    const done = fits.filter(move => waysFrom(move, chosen).some(way => way.length === chosen.length));
+    const done = fits.filter(move => isDone(move, chosen));
     const choices = done.map(move => choice(move, done));
-    const labels = choices.map(made => made.textContent);
-    choices.forEach((made, index) => {
-      if (labels.filter(label => label === labels[index]).length > 1) made.append(' (' + made.dataset.pairs + ')');
-      box.append(made);
-    });
+    tellApart(choices, index => ': ' + spellSettings(game.variables, steps[at].values, done[index], done));
+    tellApart(choices, index => ' (' + choices[index].dataset.pairs + ')');
+    box.append(...choices);
     if (chosen.length > 0) box.append(button('Take back', () => { chosen = []; show(); }));
+  };
+
+  /* Appends more to the buttons that read alike. */
+  const tellApart = (choices, more) => {
+    const labels = choices.map(made => made.textContent);
+    const isAlike = label => labels.filter(other => other === label).length > 1;
+    choices.forEach((made, index) => { if (isAlike(labels[index]) && more(index) !== ': ') made.append(more(index)); });
   };
 
   const choice = (move, among) => {
@@ -256,7 +220,7 @@ const RbgPlay = (() => {
       for (const { is } of differs) label.append(RbgBoard.pictureOf(drawing.looks[is]));
       label.append(differs.map(({ is }) => game.pieces[is]).join(' '));
     } else {
-      label.append(among.length === 1 && move.clicks.length > 0 ? 'Stop here' : move.changed.length === 0 && isPass(move.pairs) ? 'Pass' : choiceText(move, among));
+      label.append(choiceText(move, among));
     }
     const made = button(label, () => play(move));
     made.className = 'choice';
@@ -265,6 +229,11 @@ const RbgPlay = (() => {
   };
 
   const choiceText = (move, among) => {
+    if (among.length === 1 && move.clicks.length > 0) return 'Stop here';
+    const settings = spellSettings(game.variables, steps[at].values, move, among);
+    if (isPass(move)) return settings === '' ? 'Pass' : 'Pass: ' + settings;
+    const isOwn = among.every(other => other === move || spellSettings(game.variables, steps[at].values, other, among) !== settings);
+    if (settings !== '' && isOwn && settings.length < 60) return settings;
     const texts = among.map(one => spellPairs(one.pairs));
     const text = spellPairs(move.pairs);
     return texts.filter(one => one === text).length === 1 && text.length < 60 ? text : move.pairs.join(' ');
@@ -287,7 +256,7 @@ const RbgPlay = (() => {
       one.text = one.text || (index === 0 ? 'the beginning' : index + ' ' + playerName(one.mover) + ': ' + RbgBoard.spellStep(game, drawing, one));
       if (item.textContent !== one.text) item.textContent = one.text;
       item.className = index === at ? 'now' : index > at ? 'later' : '';
-      item.onclick = () => goTo(index);
+      item.onclick = () => goTo(() => index);
     });
     const now = list.children[at];
     if (now) list.scrollTop = now.offsetTop - list.offsetTop - list.clientHeight / 2;
@@ -304,7 +273,7 @@ const RbgPlay = (() => {
     queue = queue.then(async () => {
       isBusy = true;
       document.body.dataset.ready = 'no';
-      try { await act(); } catch (error) { get('problem').textContent = 'no answer: ' + error.message; }
+      try { await act(); } catch (error) { say('no answer: ' + error.message); }
       isBusy = false;
       show();
       goOn();
@@ -312,14 +281,21 @@ const RbgPlay = (() => {
     return queue;
   };
 
-  const takeMoves = lines => { const { moves, cut } = lines.moves(); isCut = cut; prepare(moves, steps[at].board); };
+  const takeMoves = async lines => {
+    const { moves, cut } = lines.moves();
+    isCut = cut;
+    prepare(moves, steps[at].board);
+    await askValues();
+  };
 
   const begin = async () => {
     const lines = reader(await ask(['place', ...STAND, 'moves']));
-    steps = [{ pairs: [], mover: 0, standing: standingOf(lines.line()), board: lines.numbers(), values: lines.numbers(), changed: [], settled: [], told: '' }];
+    const first = { pairs: [], mover: 0, standing: standingOf(lines.line()), board: lines.numbers(), values: lines.numbers(), changed: [], settled: [], told: '' };
+    steps = [first, ...steps.slice(1)];
     at = 0;
     chosen = [];
-    takeMoves(lines);
+    hinted = [];
+    await takeMoves(lines);
   };
 
   /* Looks at the first moves of the other players, to see whose the pieces are. */
@@ -340,37 +316,74 @@ const RbgPlay = (() => {
     findClicks();
   };
 
+  /* Makes a move. What came after the present step is kept if it is the same move. */
   const make = async pairs => {
     const before = steps[at];
-    const lines = reader(await ask(['make ' + pairs.join(' '), ...STAND, 'moves']));
+    const lines = reader(await ask([makeLine({ pairs }), ...STAND, 'moves']));
     const step = readStep(before, pairs, before.standing.player, lines);
     if (step.standing.fault === 'error illegal') return false;
-    if (step.standing.fault) { get('problem').textContent = showFault(step.standing.fault); return false; }
+    if (step.standing.fault) { say(showFault(step.standing.fault)); return false; }
     tell(before, step);
     const later = steps[at + 1];
-    if (later && later.pairs.join(' ') === pairs.join(' ')) step.kept = true;
-    steps = step.kept ? [...steps.slice(0, at + 1), step, ...steps.slice(at + 2)] : [...steps.slice(0, at + 1), step];
+    const isSame = later && (later.isOld ? later.told === step.told : later.pairs.join(' ') === pairs.join(' '));
+    steps = [...steps.slice(0, at + 1), step, ...(isSame ? steps.slice(at + 2) : [])];
     at += 1;
     chosen = [];
     hinted = [];
-    takeMoves(lines);
+    await takeMoves(lines);
     return true;
+  };
+
+  /* Makes a move again that was made by other rules: the same squares have to change, whatever the numbers of the actions. */
+  const makeAgain = async old => {
+    const same = legal.filter(move => told(move.changed, move.pairs) === old.told);
+    const move = same.find(one => one.pairs.join(' ') === old.pairs.join(' ')) || same[0];
+    return move ? make(move.pairs) : false;
   };
 
   const showFault = fault => ({ 'error over': 'that move leads to a question above the limits of play', 'error keeper': 'after that move the keeper makes 1,000 moves in a row' }[fault] || fault);
 
-  const play = move => { thinking += 1; get('problem').textContent = ''; inTurn(() => make(move.pairs)); };
+  const play = move => { thinking += 1; isPaused = false; say(''); inTurn(async () => { await make(move.pairs); meant = at; }); };
 
-  const goTo = index => { thinking += 1; inTurn(async () => {
-    if (index === at || index < 0 || index >= steps.length) { chosen = []; return; }
-    const questions = index < at ? ['back ' + (at - index)] : steps.slice(at + 1, index + 1).map(step => 'make ' + step.pairs.join(' '));
+  /* Goes to a step that has been, at most to before one that isn't legal now. Which one is found once those before are reached. */
+  const goTo = find => { thinking += 1; inTurn(async () => {
+    const index = find();
+    say('');
+    chosen = [];
+    hinted = [];
+    if (index === at || index < 0 || index >= steps.length) return;
+    if (index < at) await walk(['back ' + (at - index)], index);
+    while (at < index) {
+      const old = steps.findIndex((one, other) => other > at && one.isOld);
+      const end = old < 0 ? index : Math.min(old - 1, index);
+      if (end > at) await walk(steps.slice(at + 1, end + 1).map(makeLine), end);
+      else if (!await makeAgain(steps[at + 1])) { say('move ' + (at + 1) + ' is not legal now'); break; }
+    }
+    meant = at < index ? Math.max(meant, index) : index;
+    isPaused = at < steps.length - 1;
+  }); };
+
+  const walk = async (questions, index) => {
     const lines = reader(await ask([...questions, 'moves']));
     for (let one = 0; one < questions.length; one += 1) lines.line();
     at = index;
-    chosen = [];
-    hinted = [];
-    takeMoves(lines);
-  }); };
+    await takeMoves(lines);
+  };
+
+  /* Where a person is to move before the present step, and after it; the next step if there is no such place. */
+  const isPersons = ({ standing }) => standing.player > 0 && isPerson(standing.player);
+  const undo = () => goTo(() => {
+    const to = steps.slice(0, at).findLastIndex(isPersons);
+    return to < 0 ? at - 1 : to;
+  });
+  const redo = () => goTo(() => {
+    const to = steps.findIndex((one, index) => index > at && isPersons(one));
+    const isPlayed = game.players.some((_, index) => isPerson(index + 1));
+    return to > 0 ? to : isPlayed ? steps.length - 1 : at + 1;
+  });
+
+  /* Lets programs go on that wait. */
+  const resume = () => { isPaused = false; thinking += 1; show(); goOn(); };
 
   /* Clicks. */
   const click = vertex => {
@@ -380,13 +393,13 @@ const RbgPlay = (() => {
     const clicks = [...chosen, vertex];
     let fits = fitting(clicks);
     if (fits.length === 0) {
-      /* One move alone may be meant, in another order. */
-      const meant = chosen.length > 0 ? legal.filter(move => clicks.every(one => move.clicks.includes(one))) : [];
-      if (meant.length === 1) { play(meant[0]); return; }
       fits = fitting([vertex]);
+      /* One move alone may be meant, in another order. */
+      const wanted = chosen.length > 0 && fits.length === 0 ? legal.filter(move => clicks.every(one => move.clicks.includes(one))) : [];
+      if (wanted.length === 1) { play(wanted[0]); return; }
       chosen = fits.length > 0 ? [vertex] : [];
     } else chosen = clicks;
-    if (fits.length === 1) play(fits[0]); else show();
+    if (fits.length === 1 && (chosen.length >= fits[0].least || isDone(fits[0], chosen))) play(fits[0]); else show();
   };
 
   const nearest = (from, dx, dy) => {
@@ -415,10 +428,12 @@ const RbgPlay = (() => {
   const bringIntoView = vertex => {
     const stage = get('stage');
     const box = stage.getBoundingClientRect();
+    const half = drawing.svg.getBoundingClientRect().width / drawing.width * 5;
+    const isIn = (point, from, to) => point - half >= from && point + half <= to;
     const [x, y] = drawing.pointOf(vertex);
-    if (x < box.left || x > box.right || y < box.top || y > box.bottom) stage.scrollBy(x - box.left - box.width / 2, y - box.top - box.height / 2);
+    if (!isIn(x, box.left, box.right) || !isIn(y, box.top, box.bottom)) stage.scrollBy(x - box.left - box.width / 2, y - box.top - box.height / 2);
     const now = drawing.pointOf(vertex)[1];
-    if (now < 0 || now > innerHeight) scrollBy(0, now - innerHeight / 2);
+    if (!isIn(now, 0, innerHeight)) scrollBy(0, now - innerHeight / 2);
   };
 
   /* Tells of the square at which a pointer or the keys are. */
@@ -436,20 +451,25 @@ const RbgPlay = (() => {
     const onBoard = drawing.svg.contains(target);
     const arrow = { ArrowLeft: [-1, 0], ArrowRight: [1, 0], ArrowUp: [0, -1], ArrowDown: [0, 1] }[event.key];
     const acts = {
-      Home: () => goTo(0), End: () => goTo(steps.length - 1), u: () => goTo(at - 1), r: () => goTo(at + 1), Backspace: () => goTo(at - 1),
+      Home: () => goTo(() => 0), End: () => goTo(() => steps.length - 1), u: undo, r: redo, Backspace: undo, g: () => { if (isPaused) resume(); },
       h: () => hint(), Escape: () => { chosen = []; hinted = []; show(); }, '+': () => zoomBy(1.25), '-': () => zoomBy(0.8),
       b: () => focus(focused),
     };
     let act = acts[event.key];
     if (onBoard && arrow) act = () => focus(nearest(focused, arrow[0], arrow[1]));
-    if (!onBoard && arrow && arrow[0] !== 0) act = () => goTo(at + arrow[0]);
+    if (!onBoard && arrow && arrow[0] !== 0) act = arrow[0] < 0 ? undo : redo;
     if (onBoard && (event.key === 'Enter' || event.key === ' ')) act = () => click(focused);
     if (act) { event.preventDefault(); act(); }
   });
 
   /* Zoom. */
   let zoom = 1;
-  const zoomBy = factor => { zoom = Math.min(8, Math.max(0.3, zoom * factor)); sizeBoard(); };
+  const zoomBy = factor => {
+    zoom = Math.min(8, Math.max(0.3, zoom * factor));
+    sizeBoard();
+    const seen = chosen.length > 0 ? chosen[chosen.length - 1] : document.activeElement === drawing.svg ? focused : -1;
+    if (seen >= 0) bringIntoView(seen);
+  };
   const sizeBoard = () => {
     const shape = drawing.width / drawing.height;
     drawing.svg.style.width = 'min(' + (100 * zoom).toFixed(0) + '%, ' + (78 * zoom * shape).toFixed(1) + 'vh)';
@@ -465,7 +485,7 @@ const RbgPlay = (() => {
       side.id = 'side-' + (index + 1);
       for (const [value, text] of [['person', 'a person'], ['random', 'random'], ['think', 'playouts']]) side.append(new Option(text, value));
       side.value = kept[index] || 'person';
-      side.onchange = () => { thinking += 1; chosen = []; show(); goOn(); };
+      side.onchange = () => { chosen = []; resume(); };
       label.append(name + ' ', side);
       return label;
     }));
@@ -473,13 +493,15 @@ const RbgPlay = (() => {
 
   const goOn = () => {
     const step = steps[at];
-    if (!step || isBusy || !step.standing.player || isPerson(step.standing.player) || legal.length === 0) return;
+    if (!step || isBusy || isPaused || !step.standing.player || isPerson(step.standing.player) || legal.length === 0) return;
     const mine = thinking += 1;
     setTimeout(() => { if (mine === thinking) inTurn(async () => {
-      if (mine !== thinking) return;
+      if (mine !== thinking || isPaused || step !== steps[at]) return;
       const kind = get('side-' + step.standing.player).value;
       const move = kind === 'think' ? await best(Number(get('patience').value) || 500, () => mine === thinking) : legal[Math.floor(Math.random() * legal.length)];
-      if (move && mine === thinking) await make(move.pairs);
+      if (!move || mine !== thinking) return;
+      isPaused = !await make(move.pairs);
+      meant = at;
     }); }, 60);
   };
 
@@ -499,9 +521,10 @@ const RbgPlay = (() => {
       const questions = batch.flatMap(arm => ['make ' + arm.move.pairs.join(' '), 'random ' + (seed += 1) + ' 2', 'back']);
       const asked = performance.now();
       const lines = reader(await ask(questions));
+      let hasFailed = false;
       for (const arm of batch) {
         const made = lines.line();
-        if (made.startsWith('error')) { arm.count += 1e6; lines.line(); lines.line(); continue; }
+        if (made.startsWith('error')) { arm.count += 1e6; hasFailed = true; break; }
         const head = lines.line();
         if (head.startsWith('random')) {
           for (let left = 2; left > 0;) {
@@ -515,6 +538,7 @@ const RbgPlay = (() => {
         } else { arm.count += 2; arm.sum += 1; total += 2; }
         lines.line();
       }
+      if (hasFailed) await follow();
       many = performance.now() - asked > 80 ? Math.max(1, Math.floor(many / 2)) : Math.min(32, many + 2);
     }
     arms.sort((one, two) => two.count % 1e6 - one.count % 1e6 || two.sum - one.sum);
@@ -525,7 +549,7 @@ const RbgPlay = (() => {
     const move = await best(Number(get('patience').value) || 500, () => mine === thinking);
     if (mine !== thinking) return;
     hinted = move.clicks;
-    get('problem').textContent = 'a hint: ' + told(move.changed, move.pairs);
+    say('a hint: ' + told(move.changed, move.pairs), 'quiet');
   }); } };
 
   /* Records. */
@@ -543,50 +567,46 @@ const RbgPlay = (() => {
     setTimeout(() => URL.revokeObjectURL(link.href), 10000);
   };
 
-  const shortName = () => game.file.split('/').pop().replace(/[.]rbg$/, '');
+  const fileName = () => game.file.split('/').pop();
+  const shortName = () => fileName().replace(/[.]rbg$/, '');
 
   const saveRecord = async () => {
     const { status, text } = await post('/record', script());
     if (status === 200) save(shortName() + '.record', text);
-    else get('problem').textContent = 'no record: ' + text;
+    else say('no record: ' + text);
   };
 
   const savePosition = async () => {
     const { status, text } = await post('/position', script());
     if (status === 200) save(shortName() + '_' + at + '.rbg', text);
-    else get('problem').textContent = text.trim() || 'no position';
+    else say(text.trim() || 'no position');
   };
 
-  /* The lines of a record, a script or a list that are moves of players, each with the pairs that it may mean: before those of a
-     list there may be a player, or a moment and a player. */
-  const movesIn = text => {
-    const lines = text.split(LINE).map(line => line.trim());
-    const numbersOf = line => line.split(' ').map(Number);
-    const isRecord = lines[0] === 'rbg 1' || lines[0] === 'rbg 2';
-    const before = lines[0] === 'rbg 2' ? 1 : 0;
-    return lines.map(line => {
-      if (/^[0-9]+( [0-9]+)+$/.test(line)) {
-        const numbers = numbersOf(line);
-        if (isRecord) return numbers[before] > 0 ? [numbers.slice(before + 1)] : [];
-        return [0, 1, 2].map(front => numbers.slice(front)).filter(pairs => pairs.length > 0 && pairs.length % 2 === 0);
-      }
-      const said = isRecord ? null : line.match(/^(m [0-9]+ [0-9]+ M|move [0-9]+ )([0-9 ]+)$/);
-      return said ? [numbersOf(said[2])] : [];
-    }).filter(readings => readings.length > 0);
-  };
-
+  /* Makes the moves of a file. The match that is here stays if none of them can be made. */
   const open = (name, text) => inTurn(async () => {
     if (!game) return;
-    const moves = movesIn(text);
-    if (moves.length === 0) { get('problem').textContent = name + ': it has no moves'; return; }
+    const moves = RbgMoves.movesIn(text);
+    if (moves.length === 0) { say(name + ': it has no moves'); return; }
+    const before = { steps, at };
+    say('');
     await restart();
     let count = 0;
-    for (const readings of moves) {
-      const legalOne = readings.find(pairs => legal.some(move => move.pairs.join(' ') === pairs.join(' '))) || readings[0];
-      if (!await make(legalOne)) break;
+    for (const { readings } of moves) {
+      const one = readings.find(pairs => legal.some(move => move.pairs.join(' ') === pairs.join(' '))) || readings[0];
+      if (!await make(one)) break;
       count += 1;
     }
-    get('problem').textContent = name + ': ' + (count === moves.length ? count + ' moves' : 'move ' + (count + 1) + ' is not legal here');
+    const why = get('problem').textContent || 'it is not legal here';
+    if (count === moves.length) say(name + ': ' + count + ' moves', 'quiet');
+    else if (count > 0) say(name + ': move ' + (count + 1) + ', in line ' + moves[count].line + ': ' + why);
+    else {
+      steps = before.steps;
+      if (before.at > 0) await walk(steps.slice(1, before.at + 1).map(makeLine), before.at);
+      say(name + ': its first move, in line ' + moves[0].line + ': ' + why + '. The match stays');
+      return;
+    }
+    meant = at;
+    isPaused = false;
   });
 
   const restart = async () => {
@@ -596,23 +616,70 @@ const RbgPlay = (() => {
     await begin();
   };
 
-  /* Makes moves again after the rules have changed: the same squares have to change, whatever the numbers of the actions. */
-  const replay = async old => {
-    for (const step of old) {
-      const same = legal.filter(move => told(move.changed, move.pairs) === step.told);
-      const move = same.find(one => one.pairs.join(' ') === step.pairs.join(' ')) || (same.length > 0 ? same[0] : null);
-      if (!move || !await make(move.pairs)) return;
-    }
+  /* Makes moves again after the rules have changed, up to a step, and returns whether all are legal. */
+  const replay = async end => {
+    for (const step of steps) step.isOld = step !== steps[0];
+    while (at < Math.min(end, steps.length - 1)) if (!await makeAgain(steps[at + 1])) return false;
+    return true;
+  };
+
+  /* The match is kept where a page that is loaded again finds it: the moves as they are told, and where one stands. */
+  const keptUnder = () => 'rbg ' + game.file;
+  let keptLast = '';
+  const keepMatch = () => {
+    const moves = steps.slice(1).map(({ pairs, mover, told, text, standing }) => ({ pairs, mover, told, text, standing }));
+    const sides = game.players.map((_, index) => get('side-' + (index + 1)).value);
+    const kept = JSON.stringify({ moves, at: meant, sides });
+    if (kept === keptLast) return;
+    keptLast = kept;
+    try { sessionStorage.setItem(keptUnder(), kept); } catch (error) { /* (there is no room) */ }
+  };
+
+  /* The match that a page has kept before it was loaded again. What is no such match counts as none. */
+  const takeKept = () => {
+    try {
+      const { moves, at: end, sides } = JSON.parse(sessionStorage.getItem(keptUnder()));
+      if (!moves.every(({ pairs, told, text, standing }) => Array.isArray(pairs) && [told, text].every(one => typeof one === 'string') && standing)) return;
+      steps = [{}, ...moves];
+      meant = Math.min(end, moves.length);
+      game.players.forEach((_, index) => { get('side-' + (index + 1)).value = ['random', 'think'].find(kind => kind === sides[index]) || 'person'; });
+    } catch (error) { steps = []; meant = 0; }
   };
 
   /* Looks whether the file has changed. */
   const look = async () => {
     const state = await stateOf();
-    isRefused = state.refused === 1;
-    get('notes').textContent = state.notes;
+    const isRefused = state.refused === 1;
     get('notes').dataset.kind = isRefused ? 'refused' : state.notes.startsWith('no warnings') ? 'quiet' : 'warned';
+    if (state.notes !== shownNotes) showNotes(state.notes);
     document.body.dataset.refused = isRefused ? 'yes' : 'no';
     if (state.version !== version && state.version > 0) await load(state.version);
+    const stale = !game || !(isRefused || state.missing) ? '' : fileName() + (state.missing ? ' cannot be read' : ' is refused') + ': playing by the last good text';
+    if (get('stale').textContent !== stale) get('stale').textContent = stale;
+  };
+
+  /* Shows what is said of the file: lines that are broken where they are too long, and excerpts, which are not. */
+  const showNotes = notes => {
+    shownNotes = notes;
+    const parts = [];
+    for (const line of notes.trimEnd().split(LINE)) {
+      const kind = /^ *[0-9]* [|]/.test(line) ? 'excerpt' : 'message';
+      if (parts.length === 0 || parts[parts.length - 1].className !== kind) {
+        parts.push(document.createElement('div'));
+        parts[parts.length - 1].className = kind;
+      }
+      parts[parts.length - 1].append(line + LINE);
+    }
+    get('notes').replaceChildren(...parts);
+    parts.forEach(scrollToMark);
+  };
+
+  /* Scrolls an excerpt to where its mark is. */
+  const scrollToMark = excerpt => {
+    const lines = excerpt.textContent.split(LINE);
+    const mark = Math.max(...lines.map(line => line.indexOf('^')));
+    const width = excerpt.scrollWidth / Math.max(...lines.map(line => line.length));
+    if (excerpt.className === 'excerpt' && mark * width > excerpt.clientWidth - 40) excerpt.scrollLeft = mark * width - excerpt.clientWidth / 2;
   };
 
   const load = async () => {
@@ -628,17 +695,16 @@ const RbgPlay = (() => {
     focused = Math.min(focused, drawing.layout.places.length - 1);
     listen(drawing.svg);
     for (const id of ['nearer', 'farther', 'save', 'save-position', 'file']) get(id).disabled = false;
-    get('problem').textContent = '';
+    say('');
     sizeBoard();
     showSides();
-    const old = steps.slice(1, at + 1);
-    steps = [];
+    if (steps.length === 0) takeKept();
     at = 0;
     if (state.made > 0) await ask(['back ' + state.made]);
     await begin();
     await getToKnow();
-    await replay(old);
-    if (at < old.length) get('problem').textContent = 'the rules have changed: move ' + (at + 1) + ' of ' + old.length + ' is not legal now';
+    if (!await replay(meant) && get('problem').textContent === '') say('the rules have changed: move ' + (at + 1) + ' of ' + (steps.length - 1) + ' is not legal now, and kept for Redo');
+    isPaused = isPaused || at < steps.length - 1;
     document.body.dataset.version = version;
   };
 
@@ -651,9 +717,10 @@ const RbgPlay = (() => {
   };
 
   const start = () => {
-    get('first').onclick = () => goTo(0);
-    get('undo').onclick = () => goTo(at - 1);
-    get('redo').onclick = () => goTo(at + 1);
+    get('first').onclick = () => goTo(() => 0);
+    get('undo').onclick = undo;
+    get('redo').onclick = redo;
+    get('go-on').onclick = resume;
     get('hint').onclick = hint;
     get('nearer').onclick = () => zoomBy(1.25);
     get('farther').onclick = () => zoomBy(0.8);
@@ -677,7 +744,7 @@ const RbgPlay = (() => {
     });
   };
 
-  return { start, state: () => ({ at, steps, legal, chosen, game, drawing }), click, open };
+  return { start, state: () => ({ at, steps, legal, chosen, game, drawing, isPaused }), click, open };
 })();
 RbgPlay.start();
 ";
