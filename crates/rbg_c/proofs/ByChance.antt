@@ -6,33 +6,29 @@ use Rattle.std.proofs.lemmas.List.Concat.{flat_map-append}
 use Rattle.rbg_rules.specs.Meaning.{AbstractGame, AbstractPlace, Finished}
 use Rattle.rbg_questions.specs.declared.question_error.QuestionError.{QuestionError}
 use Rattle.rbg_questions.specs.declared.question_error.QuestionError.TheVariants.{Memory}
-use Rattle.rbg_questions.specs.Chance.{Plays, no_move, one_more, IsUnplayed, no_memory as no_room}
+use Rattle.rbg_questions.specs.Chance.{IsUnmoved, heavy_to_list, Plays, no_move, one_more, IsUnplayed, no_memory as no_room}
+use Rattle.rbg_questions.specs.Places.{IsUnlisted, too_hard, no_room as no_list}
 use Rattle.rbg_questions.specs.Sessions.{Leads}
-use Rattle.rbg_c.specs.States.{AbstractState, FindsMoves, IsFoundAt, Makes, MakesFound, beginning_at, moved_to}
-use Rattle.rbg_c.specs.Stepping.{IsUnmadeAt}
+use Rattle.rbg_c.specs.States.{AbstractState, FindsMoves, IsFoundAt, Makes, MakesFound, copy_of}
+use Rattle.rbg_c.specs.Stepping.{IsUnmadeAt, not_asked, too_few, unmade}
 use Rattle.rbg_c.specs.Filling.{Fills, filled, too_small}
 use Rattle.rbg_c.specs.Listing.{numbers_of_move, numbers_of_moves}
 use Rattle.rbg_c.specs.Opening.{Keeps, kept, lost}
 use Rattle.rbg_c.specs.Results.{ok}
-use Rattle.rbg_c.specs.Playouts.{GoesOn, moved, rests, HandsOut, handed, unkept, IsNotPlayedOn, IsStuck, unmade, no_memory, PlaysCopy, PlaysOn, Samples, sampled, TellsOn, copy_of}
+use Rattle.rbg_c.specs.Playouts.{Chooses, chosen, none_left, HandsOut, handed, unkept, IsNotPlayedOn, stuck, IsPlayedOn, Passes, none_made, one_made, PlaysCopy, PlaysOn, Samples, sampled, TellsOn}
 
 nothing_there : {X : Type 0} (xs : List X) (x : X) → Contains xs x → length xs ≡ 0 → ⊥
 nothing_there [] x h same = omega (arith, h.1)
 nothing_there (y ∷ ys) x h same = omega (arith, same)
 
 -- play is finished where no move was found
-pub rests_here : (old mid : AbstractState) (count : ℕ) (numbers : List ℕ) → FindsMoves old count mid → count ≡ 0 → GoesOn old false mid numbers numbers
-rests_here old mid count numbers finds nothing =
-    rests (record { no_move = λ pairs to legal. nothing_there finds.moves pairs (finds.are.whole pairs (to, legal)) (sym finds.many ∙ nothing) })
-    (ap (λ (s : AbstractState). s.game) finds.is) (ap (λ (s : AbstractState). s.origin) finds.is) (ap (λ (s : AbstractState). s.before) finds.is) (ap (λ (s : AbstractState). s.place) finds.is) refl
+over_here : (old new : AbstractState) → FindsMoves old 0 new → Finished old.game old.place
+over_here old new finds = record { no_move = λ pairs to legal. nothing_there finds.moves pairs (finds.are.whole pairs (to, legal)) (sym finds.many) }
 
--- one of the moves that were found is made, and its numbers are appended
-pub goes_here : (old mid new : AbstractState) (count index : ℕ) (before after : List ℕ) → FindsMoves old count mid → MakesFound mid index new → ((pairs : List (ℕ × ℕ)) → IsFoundAt mid index pairs → after ≡ before ++ numbers_of_move pairs) → GoesOn old true new before after
-goes_here old mid new count index before after finds made told =
-    let makes : Makes (record { game = old.game; origin = old.origin; before = old.before; place = old.place; found = Some finds.moves }) made.pairs new = subst (λ (s : AbstractState). Makes s made.pairs new) finds.is made.makes in
-    let on : Makes old made.pairs new = record { leads = makes.leads; is = makes.is } in
-    let there : IsFoundAt mid index made.pairs = record { moves = made.moves; found = made.found; there = made.there } in
-    moved on (told made.pairs there)
+-- no move is made where the moves aren't listed
+pub unlisted_unmoved : (game : AbstractGame) (place : AbstractPlace) (refusal : QuestionError) → IsUnlisted game place refusal → IsUnmoved game place refusal
+unlisted_unmoved game place _ (too_hard hard) = heavy_to_list hard
+unlisted_unmoved game place _ no_list = no_room
 
 -- the move at an index among those that were found is told
 pub found_told : {E : Type 0} (result : Result (Unit {0}) E) (state : AbstractState) (index : ℕ) (moves : List (List (ℕ × ℕ))) (pairs : List (ℕ × ℕ)) (before after : List ℕ) → state.found ≡ Some moves → slice_get moves index ≡ Some pairs → OnOk result (after ≡ before ++ numbers_of_move pairs) → OnOk result ((others : List (ℕ × ℕ)) → IsFoundAt state index others → after ≡ before ++ numbers_of_move others)
@@ -57,22 +53,73 @@ none_beyond state index moves pairs is beyond found =
     let one : found.moves ≡ moves = cc in
     omega (arith, slice_get_within found.moves index pairs found.there, ap (λ (ms : List (List (ℕ × ℕ))). length ms) one, beyond)
 
--- or it isn't
-pub stuck_here : (old mid : AbstractState) (count index : ℕ) (refusal : QuestionError) → FindsMoves old count mid → IsUnmadeAt mid index refusal → IsStuck old.game old.place refusal
-stuck_here old mid count index refusal finds why = unmade (ap (λ (s : AbstractState). s.game) finds.is) (ap (λ (s : AbstractState). s.place) finds.is) why
+-- one of the moves that were found isn't made
+pub stuck_here : (old mid : AbstractState) (count index : ℕ) (refusal : QuestionError) → FindsMoves old count mid → index < count → IsUnmadeAt mid index refusal → IsUnmoved mid.game mid.place refusal
+stuck_here old mid count index _ finds within (not_asked none) =
+    let both : ◌≡◌ {A = Option (List (List (ℕ × ℕ)))} None (Some finds.moves) = sym none ∙ ap (λ (s : AbstractState). s.found) finds.is in
+    absurd cc
+stuck_here old mid count index _ finds within (too_few {moves} found few) =
+    let both : Some moves ≡ Some finds.moves = sym found ∙ ap (λ (s : AbstractState). s.found) finds.is in
+    let one : moves ≡ finds.moves = cc in
+    absurd (omega (arith, within, few, finds.many, ap (λ (ms : List (List (ℕ × ℕ))). length ms) one))
+stuck_here old mid count index refusal finds within (unmade found there why unmoved) = unmoved
 
--- So many moves were made by chance, and their numbers are appended.
-pub record GoneOn (old : AbstractState) (made : ℕ) (now : AbstractState) (first numbers : List ℕ) : Type 0 where
+-- These moves were made by chance so far.
+pub record Gone (old : AbstractState) (moves : List (List (ℕ × ℕ))) (now : AbstractState) : Type 0 where
   pub game : now.game ≡ old.game
   pub origin : now.origin ≡ old.origin
-  pub moves : List (List (ℕ × ℕ))
-  pub many : length moves ≡ made
-  pub plays : Plays old.game old.place moves now.place
-  pub before : length now.before ≡ length old.before + made
-  pub told : numbers ≡ first ++ numbers_of_moves moves
+  pub passed : List AbstractPlace
+  pub passes : Passes old.game old.place moves passed now.place
+  pub before : now.before ≡ old.before ++ passed
 
-pub gone_none : (old : AbstractState) (numbers : List ℕ) → GoneOn old 0 old numbers numbers
-gone_none old numbers = record { game = refl; origin = refl; moves = []; many = refl; plays = no_move; before = omega arith; told = sym (append-nil numbers) }
+-- So many were.
+pub record GoneOn (old : AbstractState) (made : ℕ) (now : AbstractState) : Type 0 where
+  pub moves : List (List (ℕ × ℕ))
+  pub gone : Gone old moves now
+  pub many : length moves ≡ made
+
+-- Their numbers are appended.
+pub record ToldOn (old : AbstractState) (made : ℕ) (now : AbstractState) (first numbers : List ℕ) : Type 0 where
+  pub on : GoneOn old made now
+  pub told : numbers ≡ first ++ numbers_of_moves on.moves
+
+pub gone_nowhere : (old : AbstractState) → Gone old [] old
+gone_nowhere old = record { game = refl; origin = refl; passed = []; passes = none_made; before = sym (append-nil old.before) }
+
+abbrev pub gone_none : (old : AbstractState) → GoneOn old 0 old
+gone_none old = record { moves = []; gone = gone_nowhere old; many = refl }
+
+pub told_none : (old : AbstractState) (numbers : List ℕ) → ToldOn old 0 old numbers numbers
+told_none old numbers = record { on = gone_none old; told = sym (append-nil numbers) }
+
+-- the same where moves were found
+found_there : (old now mid : AbstractState) (count : ℕ) (moves : List (List (ℕ × ℕ))) → Gone old moves now → FindsMoves now count mid → Gone old moves mid
+found_there old now mid count moves gone finds =
+    subst (λ (s : AbstractState). Gone old moves s) (sym finds.is)
+    (record { game = gone.game; origin = gone.origin; passed = gone.passed; passes = gone.passes; before = gone.before })
+
+-- and after one more
+pub one_further : (old mid new : AbstractState) (moves : List (List (ℕ × ℕ))) (pairs : List (ℕ × ℕ)) → Gone old moves mid → Makes mid pairs new → Gone old (moves ++ pairs ∷ []) new
+one_further old mid new moves pairs gone makes = record {
+  game = ap (λ (s : AbstractState). s.game) makes.is ∙ gone.game;
+  origin = ap (λ (s : AbstractState). s.origin) makes.is ∙ gone.origin;
+  passed = gone.passed ++ mid.place ∷ [];
+  passes = one_made gone.passes (subst (λ (g : AbstractGame). Leads g mid.place pairs new.place) gone.game makes.leads);
+  before = ap (λ (s : AbstractState). s.before) makes.is ∙ (ap (λ (ps : List AbstractPlace). ps ++ mid.place ∷ []) gone.before ∙ append_assoc old.before gone.passed (mid.place ∷ []));
+}
+
+pub one_more_made : (moves : List (List (ℕ × ℕ))) (pairs : List (ℕ × ℕ)) (made : ℕ) → length moves ≡ made → length (moves ++ pairs ∷ []) ≡ made + 1
+one_more_made moves pairs made many = length-append moves (pairs ∷ []) ∙ ap (λ n. n + 1) many
+
+pub chosen_there : (old now mid : AbstractState) (index : ℕ) (moves : List (List (ℕ × ℕ))) → Gone old moves now → Chooses now (Some index) mid → Gone old moves mid
+chosen_there old now mid index moves gone (chosen {count} finds within) = found_there old now mid count moves gone finds
+
+abbrev pub gone_one : (old now mid new : AbstractState) (made index : ℕ) → GoneOn old made now → Chooses now (Some index) mid → MakesFound mid index new → GoneOn old (made + 1) new
+gone_one old now mid new made index on chooses makes = record {
+  moves = on.moves ++ makes.pairs ∷ [];
+  gone = one_further old mid new on.moves makes.pairs (chosen_there old now mid index on.moves on.gone chooses) makes.makes;
+  many = one_more_made on.moves makes.pairs made on.many;
+}
 
 numbers_more : (first mid new : List ℕ) (moves : List (List (ℕ × ℕ))) (pairs : List (ℕ × ℕ)) → mid ≡ first ++ numbers_of_moves moves → new ≡ mid ++ numbers_of_move pairs → new ≡ first ++ numbers_of_moves (moves ++ pairs ∷ [])
 numbers_more first mid new moves pairs so_far written =
@@ -80,75 +127,78 @@ numbers_more first mid new moves pairs so_far written =
     flat_map-append numbers_of_move moves (pairs ∷ []) ∙ ap (λ t. numbers_of_moves moves ++ t) (append-nil (numbers_of_move pairs)) in
     written ∙ (ap (λ m. m ++ numbers_of_move pairs) so_far ∙ (append_assoc first (numbers_of_moves moves) (numbers_of_move pairs) ∙ ap (λ t. first ++ t) (sym all)))
 
-one_longer : (old now new : AbstractState) (made : ℕ) → length now.before ≡ length old.before + made → new ≡ moved_to now new.place → length new.before ≡ length old.before + (made + 1)
-one_longer old now new made gone is =
-    let longer : length new.before ≡ length (now.before ++ now.place ∷ []) = ap (λ (s : AbstractState). length s.before) is in
-    let parts : length (now.before ++ now.place ∷ []) ≡ length now.before + 1 = length-append now.before (now.place ∷ []) in
-    omega (arith, longer, parts, gone)
+pub told_one : (old now mid new : AbstractState) (made index : ℕ) (first before after : List ℕ) → ToldOn old made now first before → Chooses now (Some index) mid → MakesFound mid index new → ((pairs : List (ℕ × ℕ)) → IsFoundAt mid index pairs → after ≡ before ++ numbers_of_move pairs) → ToldOn old (made + 1) new first after
+told_one old now mid new made index first before after so chooses makes written = record {
+  on = gone_one old now mid new made index so.on chooses makes;
+  told = numbers_more first before after so.on.moves makes.pairs so.told (written makes.pairs (record { moves = makes.moves; found = makes.found; there = makes.there }));
+}
 
-pub gone_one : (old now new : AbstractState) (made : ℕ) (first mid after : List ℕ) → GoneOn old made now first mid → GoesOn now true new mid after → GoneOn old (made + 1) new first after
-gone_one old now new made first mid after gone (moved {pairs} makes told) = record {
-  game = ap (λ (s : AbstractState). s.game) makes.is ∙ gone.game;
-  origin = ap (λ (s : AbstractState). s.origin) makes.is ∙ gone.origin;
-  moves = gone.moves ++ pairs ∷ [];
-  many = length-append gone.moves (pairs ∷ []) ∙ ap (λ n. n + 1) gone.many;
-  plays = one_more gone.plays (subst (λ (g : AbstractGame). Leads g now.place pairs new.place) gone.game makes.leads);
-  before = one_longer old now new made gone.before makes.is;
-  told = numbers_more first mid after gone.moves pairs gone.told told;
+-- moves that pass places are played
+all_played : (game : AbstractGame) (from : AbstractPlace) (moves : List (List (ℕ × ℕ))) (passed : List AbstractPlace) (to : AbstractPlace) → Passes game from moves passed to → Plays game from moves to
+all_played game from _ _ _ none_made = no_move
+all_played game from _ _ to (one_made {moves} {passed} {middle} passes leads) = one_more (all_played game from moves passed middle passes) leads
+
+as_many : (game : AbstractGame) (from : AbstractPlace) (moves : List (List (ℕ × ℕ))) (passed : List AbstractPlace) (to : AbstractPlace) → Passes game from moves passed to → length passed ≡ length moves
+as_many game from _ _ _ none_made = refl
+as_many game from _ _ to (one_made {moves} {passed} {middle} {pairs = pairs} passes leads) =
+    length-append passed (middle ∷ []) ∙ (ap (λ n. n + 1) (as_many game from moves passed middle passes) ∙ sym (length-append moves (pairs ∷ [])))
+
+plays_so : (old now : AbstractState) (most : ℕ) (moves : List (List (ℕ × ℕ))) → Gone old moves now → length moves ≤ most → (length moves < most → Finished old.game now.place) → PlaysOn old most moves now
+plays_so old now most moves gone few whole = record {
+  game = gone.game;
+  origin = gone.origin;
+  sampled = record { plays = all_played old.game old.place moves gone.passed now.place gone.passes; few = few; whole = whole };
+  passed = gone.passed;
+  passes = gone.passes;
+  before = gone.before;
+  made = ap (λ (ps : List AbstractPlace). length ps) gone.before ∙ (length-append old.before gone.passed ∙ ap (λ n. length old.before + n) (as_many old.game old.place moves gone.passed now.place gone.passes));
 }
 
 -- the moves so far, where there is no other
-pub ends_so : (old now new : AbstractState) (most made : ℕ) (first mid after : List ℕ) → GoneOn old made now first mid → GoesOn now false new mid after → made < most → TellsOn old most new first after
-ends_so old now new most made first mid after gone (rests over game origin before place same) few = record {
-  moves = gone.moves;
-  plays = record {
-    game = game ∙ gone.game;
-    origin = origin ∙ gone.origin;
-    plays = subst (Plays old.game old.place gone.moves) (sym place) gone.plays;
-    made = ap (λ (ps : List AbstractPlace). length ps) before ∙ (gone.before ∙ ap (λ n. length old.before + n) (sym gone.many));
-    few = omega (arith, few, gone.many);
-    ends = λ less. subst (λ (p : AbstractPlace). Finished old.game p) (sym place) (subst (λ (g : AbstractGame). Finished g now.place) gone.game over);
-  };
-  told = same ∙ gone.told;
-}
+over_there : (old now new : AbstractState) (moves : List (List (ℕ × ℕ))) → Gone old moves now → FindsMoves now 0 new → Finished old.game new.place
+over_there old now new moves gone finds =
+    subst (λ (p : AbstractPlace). Finished old.game p) (sym (ap (λ (s : AbstractState). s.place) finds.is)) (subst (λ (g : AbstractGame). Finished g now.place) gone.game (over_here now new finds))
+
+ends_there : (old now new : AbstractState) (most made : ℕ) → (on : GoneOn old made now) → Chooses now None new → made < most → PlaysOn old most on.moves new
+ends_there old now new most made on (none_left finds) few =
+    plays_so old new most on.moves (found_there old now new 0 on.moves on.gone finds) (omega (arith, few, on.many)) (λ less. over_there old now new on.moves on.gone finds)
+
+pub ends_so : (old now new : AbstractState) (most made : ℕ) → GoneOn old made now → Chooses now None new → made < most → IsPlayedOn old most new
+ends_so old now new most made on none few = record { moves = on.moves; plays = ends_there old now new most made on none few }
+
+pub tells_so : (old now new : AbstractState) (most made : ℕ) (first numbers : List ℕ) → ToldOn old made now first numbers → Chooses now None new → made < most → TellsOn old most new first numbers
+tells_so old now new most made first numbers so none few = record { moves = so.on.moves; plays = ends_there old now new most made so.on none few; told = so.told }
 
 -- as many moves as were wanted
-pub all_made : (old now : AbstractState) (most made : ℕ) (first mid : List ℕ) → GoneOn old made now first mid → made ≡ most → TellsOn old most now first mid
-all_made old now most made first mid gone same = record {
-  moves = gone.moves;
-  plays = record {
-    game = gone.game;
-    origin = gone.origin;
-    plays = gone.plays;
-    made = gone.before ∙ ap (λ n. length old.before + n) (sym gone.many);
-    few = omega (arith, gone.many, same);
-    ends = λ less. absurd (omega (arith, gone.many, same, less));
-  };
-  told = gone.told;
-}
+made_there : (old now : AbstractState) (most made : ℕ) → (on : GoneOn old made now) → made ≡ most → PlaysOn old most on.moves now
+made_there old now most made on same = plays_so old now most on.moves on.gone (omega (arith, on.many, same)) (λ less. absurd (omega (arith, on.many, same, less)))
 
--- a move isn't made after the moves so far
-pub not_on : (old now : AbstractState) (made : ℕ) (first mid : List ℕ) (refusal : QuestionError) → GoneOn old made now first mid → IsStuck now.game now.place refusal → IsNotPlayedOn old refusal
-not_on old now made first mid refusal gone stuck = record {
-  moves = gone.moves;
-  to = now.place;
-  plays = gone.plays;
-  stuck = subst (λ (g : AbstractGame). IsStuck g now.place refusal) gone.game stuck;
-}
+pub all_made : (old now : AbstractState) (most made : ℕ) → GoneOn old made now → made ≡ most → IsPlayedOn old most now
+all_made old now most made on same = record { moves = on.moves; plays = made_there old now most made on same }
+
+pub all_told : (old now : AbstractState) (most made : ℕ) (first numbers : List ℕ) → ToldOn old made now first numbers → made ≡ most → TellsOn old most now first numbers
+all_told old now most made first numbers so same = record { moves = so.on.moves; plays = made_there old now most made so.on same; told = so.told }
+
+-- no move is made after the moves so far
+stuck_so : (old now : AbstractState) (most made : ℕ) (moves : List (List (ℕ × ℕ))) (refusal : QuestionError) → Gone old moves now → length moves ≡ made → made < most → IsUnmoved now.game now.place refusal → IsNotPlayedOn old.game old.place most refusal
+stuck_so old now most made moves refusal gone many few unmoved =
+    stuck (all_played old.game old.place moves gone.passed now.place gone.passes) (omega (arith, many, few)) (subst (λ (g : AbstractGame). IsUnmoved g now.place refusal) gone.game unmoved)
+
+pub not_on : (old now : AbstractState) (most made : ℕ) (refusal : QuestionError) → GoneOn old made now → made < most → IsUnmoved now.game now.place refusal → IsNotPlayedOn old.game old.place most refusal
+not_on old now most made refusal on few unmoved = stuck_so old now most made on.moves refusal on.gone on.many few unmoved
+
+-- one of the moves that were found after them isn't made
+pub not_made : (old now mid : AbstractState) (most made index : ℕ) (refusal : QuestionError) → GoneOn old made now → made < most → Chooses now (Some index) mid → IsUnmadeAt mid index refusal → IsNotPlayedOn old.game old.place most refusal
+not_made old now mid most made index refusal on few (chosen {count} finds within) why =
+    stuck_so old mid most made on.moves refusal (found_there old now mid count on.moves on.gone finds) on.many few (stuck_here now mid count index refusal finds within why)
 
 -- there was no memory to tell of matches
 pub unplayed_memory : (game : AbstractGame) (from : AbstractPlace) → IsUnplayed game from Memory
 unplayed_memory game from = record { moves = []; few = omega arith; to = from; plays = no_move; unmoved = no_room }
 
--- there was no memory for a copy
-pub no_copy : (old : AbstractState) → IsNotPlayedOn old Memory
-no_copy old = record { moves = []; to = old.place; plays = no_move; stuck = no_memory }
-
 -- a copy on which no move is made
-pub copy_stuck : (state copy : AbstractState) (refusal : QuestionError) → copy ≡ beginning_at state.game state.origin state.place → IsNotPlayedOn copy refusal → IsNotPlayedOn state refusal
-copy_stuck state copy refusal is stuck =
-    let it : IsNotPlayedOn (beginning_at state.game state.origin state.place) refusal = subst (λ (s : AbstractState). IsNotPlayedOn s refusal) is stuck in
-    record { moves = it.moves; to = it.to; plays = it.plays; stuck = it.stuck }
+pub copy_stuck : (state copy : AbstractState) (most : ℕ) (refusal : QuestionError) → copy ≡ copy_of state → IsNotPlayedOn copy.game copy.place most refusal → IsNotPlayedOn state.game state.place most refusal
+copy_stuck state copy most refusal is why = subst (λ (s : AbstractState). IsNotPlayedOn s.game s.place most refusal) is why
 
 -- the state that a handle held
 pub copies_from : (from : Option AbstractState) (held state : AbstractState) (most : ℕ) (before after : Option AbstractState) (made result : ℕ) → from ≡ Some held → state ≡ held → PlaysCopy (Some state) most before after made result → PlaysCopy from most before after made result

@@ -1,24 +1,23 @@
 -- The moves that were found.
-use Rattle.std.proofs.Common.{◌≡◌, ℕ, ◌<◌, ◌≤◌, ◌^◌, ◌⊎◌, inl, inr, List, length, Bool, true, false, Result, Err, refl, sym, subst, arith}
+use Rattle.std.proofs.Common.{◌≡◌, ℕ, ◌<◌, ◌≤◌, ◌^◌, List, length, Bool, true, false, refl, sym, subst, arith}
 use Rattle.std.specs.Prelude.{Option, Some, IfSome, slice_get}
 use Rattle.rbg_base.proofs.Common.{get_or_from_slice_get, slice_get_within}
 use Rattle.rbg_questions.specs.declared.question_error.QuestionError.{QuestionError}
-use Rattle.rbg_rules.specs.Meaning.{AbstractGame, AbstractPlace, IsLegal, IsTooHard, list_moves}
-use Rattle.rbg_search.specs.declared.over.Over.{Over}
-use Rattle.rbg_search.specs.declared.over.Over.TheVariants.{Deep, Wide, Memory}
+use Rattle.rbg_rules.specs.Meaning.{AbstractGame, AbstractPlace, IsLegal}
 use Rattle.rbg_moves.specs.Listing.{IsGathered}
-use Rattle.rbg_questions.specs.internal.Places.{IsUnfollowed, IsUnlisted, IsUnmade, too_hard, no_room}
-use Rattle.rbg_questions.specs.internal.Refusing.{refusal_of_over}
-use Rattle.rbg_c.specs.States.{AbstractState, AreMoves, FindsMoves, IsState}
+use Rattle.rbg_questions.specs.Chance.{IsUnmoved}
+use Rattle.rbg_questions.specs.Counting.{AreLegalMoves}
+use Rattle.rbg_questions.specs.Places.{IsUnfollowed, IsUnmade}
+use Rattle.rbg_c.specs.States.{AbstractState, FindsMoves, IsState}
 
 -- no list is as long as the limit
-are_moves : (game : AbstractGame) (place : AbstractPlace) (max : ℕ) (all : List (List (ℕ × ℕ))) (cut : Bool) (len : ℕ) → IsGathered game place max all cut → len ≡ length all → len < 2 ^ 63 → 2 ^ 63 ≤ max → AreMoves game place all
+are_moves : (game : AbstractGame) (place : AbstractPlace) (max : ℕ) (all : List (List (ℕ × ℕ))) (cut : Bool) (len : ℕ) → IsGathered game place max all cut → len ≡ length all → len < 2 ^ 63 → 2 ^ 63 ≤ max → AreLegalMoves game place all
 are_moves game place max all true len gathered same small large = absurd (omega (arith, small, large, same, gathered.full refl))
 are_moves game place max all false len gathered same small large = record { legal = gathered.legal; different = gathered.different; whole = gathered.whole refl }
 
 -- what was found are the moves of the place
-found_are : (state : AbstractState) (moves : List (List (ℕ × ℕ))) → IsState state → state.found ≡ Some moves → AreMoves state.game state.place moves
-found_are state moves is same = subst (λ (found : Option (List (List (ℕ × ℕ)))). IfSome found (AreMoves state.game state.place)) same is.found
+found_are : (state : AbstractState) (moves : List (List (ℕ × ℕ))) → IsState state → state.found ≡ Some moves → AreLegalMoves state.game state.place moves
+found_are state moves is same = subst (λ (found : Option (List (List (ℕ × ℕ)))). IfSome found (AreLegalMoves state.game state.place)) same is.found
 
 -- the one at an index is legal
 pub legal_found : (state : AbstractState) (game : AbstractGame) (moves : List (List (ℕ × ℕ))) (index : ℕ) (pairs : List (ℕ × ℕ)) → IsState state → game ≡ state.game → state.found ≡ Some moves → slice_get moves index ≡ Some pairs → IsLegal game state.place pairs
@@ -28,9 +27,9 @@ legal_found state game moves index pairs is same_game found there =
     (subst (IsLegal state.game state.place) (get_or_from_slice_get moves index pairs pairs there) (legal index pairs (slice_get_within moves index pairs there)))
 
 -- the moves were found
-moves_there : (state : AbstractState) (game : AbstractGame) (max : ℕ) (moves : List (List (ℕ × ℕ))) (cut : Bool) (len : ℕ) → game ≡ state.game → IsGathered game state.place max moves cut → len ≡ length moves → len < 2 ^ 63 → 2 ^ 63 ≤ max → AreMoves state.game state.place moves
+moves_there : (state : AbstractState) (game : AbstractGame) (max : ℕ) (moves : List (List (ℕ × ℕ))) (cut : Bool) (len : ℕ) → game ≡ state.game → IsGathered game state.place max moves cut → len ≡ length moves → len < 2 ^ 63 → 2 ^ 63 ≤ max → AreLegalMoves state.game state.place moves
 moves_there state game max moves cut len same_game gathered same small large =
-    subst (λ (g : AbstractGame). AreMoves g state.place moves) same_game (are_moves game state.place max moves cut len gathered same small large)
+    subst (λ (g : AbstractGame). AreLegalMoves g state.place moves) same_game (are_moves game state.place max moves cut len gathered same small large)
 
 pub found_state : (state : AbstractState) (game : AbstractGame) (max : ℕ) (moves : List (List (ℕ × ℕ))) (cut : Bool) (len : ℕ) → IsState state → game ≡ state.game → IsGathered game state.place max moves cut → len ≡ length moves → len < 2 ^ 63 → 2 ^ 63 ≤ max → IsState (record { game = state.game; origin = state.origin; before = state.before; place = state.place; found = Some moves })
 found_state state game max moves cut len is same_game gathered same small large =
@@ -43,6 +42,9 @@ finds_moves state game max moves cut len is same_game gathered same small large 
 -- why a move isn't made, in a game that is the state's
 pub unmade_in : (state : AbstractState) (game : AbstractGame) (pairs : List (ℕ × ℕ)) (refusal : QuestionError) → IsState state → game ≡ state.game → IsUnmade game state.place pairs refusal → IsUnmade state.game state.place pairs refusal
 unmade_in state game pairs refusal is same why = subst (λ (g : AbstractGame). IsUnmade g state.place pairs refusal) same why
+
+pub unmoved_in : (state : AbstractState) (game : AbstractGame) (refusal : QuestionError) → IsState state → game ≡ state.game → IsUnmoved game state.place refusal → IsUnmoved state.game state.place refusal
+unmoved_in state game refusal is same why = subst (λ (g : AbstractGame). IsUnmoved g state.place refusal) same why
 
 -- and why one that was heard isn't followed
 pub unfollowed_in : (state : AbstractState) (game : AbstractGame) (pairs : List (ℕ × ℕ)) (refusal : QuestionError) → IsState state → game ≡ state.game → IsUnfollowed game state.place pairs refusal → IsUnfollowed state.game state.place pairs refusal

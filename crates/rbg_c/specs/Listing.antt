@@ -1,7 +1,7 @@
 -- All legal moves of a state in one buffer of numbers.
 use Rattle.std.specs.Prelude.{◌≡◌, ℕ, List, [], ◌∷◌, length, Option, None, Some}
 use Rattle.std.specs.List.{flat_map}
-use Rattle.rbg_questions.specs.internal.Places.{IsUnlisted}
+use Rattle.rbg_questions.specs.Places.{IsUnlisted}
 use Rattle.rbg_c.specs.States.{AbstractState, FindsMoves}
 use Rattle.rbg_c.specs.Filling.{FillsMade}
 use Rattle.rbg_c.specs.Results.{Refuses, empty}

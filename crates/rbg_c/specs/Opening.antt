@@ -6,7 +6,7 @@ use Rattle.rbg_game.specs.Loading.{Loads, IsMemory, IsRefused}
 use Rattle.rbg_game.specs.declared.error.LoadError.{LoadError}
 use Rattle.rbg_questions.specs.Packing.{packed_of}
 use Rattle.rbg_questions.specs.Sessions.{beginning_of}
-use Rattle.rbg_c.specs.States.{AbstractState, Unpacks, beginning_at}
+use Rattle.rbg_c.specs.States.{AbstractState, Unpacks, beginning_at, copy_of}
 use Rattle.rbg_c.specs.Results.{ok, empty, memory, no_place, layer_of}
 
 -- What is said of a text.
@@ -49,7 +49,7 @@ pub data Begins (text : List ℕ) (before after : Option AbstractState) (result 
 --   copied: a copy of its state is kept.
 pub data Copies (from before after : Option AbstractState) (result : ℕ) : Type 0 where
   nothing : from ≡ None → after ≡ before → result ≡ empty → Copies from before after result
-  copied : {state : AbstractState} → from ≡ Some state → Keeps (beginning_at state.game state.origin state.place) before after result → Copies from before after result
+  copied : {state : AbstractState} → from ≡ Some state → Keeps (copy_of state) before after result → Copies from before after result
 
 -- What becomes of a handle in which a place of the game of a state is unpacked.
 --   unpacked: the state at the place of the bytes is kept.

@@ -1,18 +1,18 @@
 -- Matches that are played by chance from a state.
-use Rattle.std.specs.Prelude.{◌≡◌, ℕ, ◌+◌, ◌<◌, ◌≤◌, List, [], ◌∷◌, ◌++◌, length, drop, Bool, true, false, Option, None, Some}
+use Rattle.std.specs.Prelude.{◌≡◌, ℕ, ◌+◌, ◌<◌, List, [], ◌∷◌, ◌++◌, length, drop, Option, None, Some}
 use Rattle.std.specs.List.{flat_map}
-use Rattle.rbg_rules.specs.Meaning.{AbstractGame, AbstractPlace, Finished}
+use Rattle.rbg_rules.specs.Meaning.{AbstractGame, AbstractPlace}
 use Rattle.rbg_questions.specs.declared.question_error.QuestionError.{QuestionError}
 use Rattle.rbg_questions.specs.declared.question_error.QuestionError.TheVariants.{Memory}
-use Rattle.rbg_questions.specs.Chance.{AreTallied, Counted, IsUnplayed, Plays}
+use Rattle.rbg_questions.specs.Chance.{AreTallied, Counted, IsUnmoved, IsUnplayed, Plays}
 use Rattle.rbg_questions.specs.Limits.{IsCount}
-use Rattle.rbg_questions.specs.internal.Places.{IsUnlisted}
-use Rattle.rbg_c.specs.States.{AbstractState, Makes, beginning_at}
-use Rattle.rbg_c.specs.Stepping.{IsUnmadeAt}
+use Rattle.rbg_questions.specs.Searching.{IsSampled}
+use Rattle.rbg_questions.specs.Sessions.{Leads}
+use Rattle.rbg_c.specs.States.{AbstractState, FindsMoves, copy_of}
 use Rattle.rbg_c.specs.Opening.{Keeps}
 use Rattle.rbg_c.specs.Results.{Refuses, empty, memory, ok, range, small}
 use Rattle.rbg_c.specs.Filling.{Fills}
-use Rattle.rbg_c.specs.Listing.{numbers_of_move, numbers_of_moves}
+use Rattle.rbg_c.specs.Listing.{numbers_of_moves}
 
 -- The row of matches that ended alike: how many they are, and the players' scores. Those that were stopped have none.
 abbrev pub ending_row : Option (List ℕ) → (matches : ℕ) → List ℕ
@@ -49,32 +49,39 @@ pub data PlaysOut (count : ℕ) (before after : Option AbstractState) (old new :
       Refuses (IsUnplayed state.game state.place) result →
       PlaysOut count before after old new needed result
 
--- A move by chance, or none, and the numbers before and after it.
---   moved: a legal move was made, and its numbers are appended.
---   rests: there is none, and play stands where it stood.
-pub data GoesOn (old : AbstractState) : Bool → (new : AbstractState) → (before after : List ℕ) → Type 0 where
-  moved : {pairs : List (ℕ × ℕ)} {new : AbstractState} {before after : List ℕ} →
-      Makes old pairs new →
-      after ≡ before ++ numbers_of_move pairs →
-      GoesOn old true new before after
-  rests : {new : AbstractState} {before after : List ℕ} →
-      Finished old.game old.place →
-      new.game ≡ old.game →
-      new.origin ≡ old.origin →
-      new.before ≡ old.before →
-      new.place ≡ old.place →
-      after ≡ before →
-      GoesOn old false new before after
+-- One of the legal moves is chosen, by its index among those that were found, or there is none.
+--   chosen: this one.
+--   none_left: none was found.
+pub data Chooses (old : AbstractState) : Option ℕ → (new : AbstractState) → Type 0 where
+  chosen : {count index : ℕ} {new : AbstractState} → FindsMoves old count new → index < count → Chooses old (Some index) new
+  none_left : {new : AbstractState} → FindsMoves old 0 new → Chooses old None new
+
+-- Moves of the players, each with the keeper's moves after it, lead from one place to the other, and each was made at one
+-- of these places, in the same order.
+pub data Passes (game : AbstractGame) (from : AbstractPlace)
+    : (moves : List (List (ℕ × ℕ))) → (passed : List AbstractPlace) → (to : AbstractPlace) → Type 0
+  where
+    none_made : Passes game from [] [] from
+    one_made : {moves : List (List (ℕ × ℕ))} {passed : List AbstractPlace} {middle to : AbstractPlace} {pairs : List (ℕ × ℕ)} →
+        Passes game from moves passed middle →
+        Leads game middle pairs to →
+        Passes game from (moves ++ pairs ∷ []) (passed ++ middle ∷ []) to
 
 -- These moves by chance lead from a state to another: at most `most`, and fewer only where play is finished. They can be
--- undone.
+-- undone: the places that they passed stand after those before.
 pub record PlaysOn (old : AbstractState) (most : ℕ) (moves : List (List (ℕ × ℕ))) (new : AbstractState) : Type 0 where
   pub game : new.game ≡ old.game
   pub origin : new.origin ≡ old.origin
-  pub plays : Plays old.game old.place moves new.place
+  pub sampled : IsSampled old.game old.place most moves new.place
+  pub passed : List AbstractPlace
+  pub passes : Passes old.game old.place moves passed new.place
+  pub before : new.before ≡ old.before ++ passed
   pub made : length new.before ≡ length old.before + length moves
-  pub few : length moves ≤ most
-  pub ends : length moves < most → Finished old.game new.place
+
+-- Such moves lead there.
+pub record IsPlayedOn (old : AbstractState) (most : ℕ) (new : AbstractState) : Type 0 where
+  pub moves : List (List (ℕ × ℕ))
+  pub plays : PlaysOn old most moves new
 
 -- Such moves lead there, and their numbers are appended.
 pub record TellsOn (old : AbstractState) (most : ℕ) (new : AbstractState) (before after : List ℕ) : Type 0 where
@@ -82,28 +89,16 @@ pub record TellsOn (old : AbstractState) (most : ℕ) (new : AbstractState) (bef
   pub plays : PlaysOn old most moves new
   pub told : after ≡ before ++ numbers_of_moves moves
 
--- a copy of a state
-abbrev pub copy_of : AbstractState → AbstractState
-copy_of state = beginning_at state.game state.origin state.place
-
--- Why no moves are made by chance: some moves lead to a place where the next one isn't made.
---   unlisted: the legal moves aren't listed there.
---   unmade: one of them isn't made.
+-- Why at most so many moves aren't made by chance.
+--   stuck: moves, fewer than so many, lead to where no move is made.
 --   no_memory: it says nothing of the place.
-pub data IsStuck (game : AbstractGame) (place : AbstractPlace) : QuestionError → Type 0 where
-  unlisted : {refusal : QuestionError} → IsUnlisted game place refusal → IsStuck game place refusal
-  unmade : {state : AbstractState} {index : ℕ} {refusal : QuestionError} →
-      state.game ≡ game →
-      state.place ≡ place →
-      IsUnmadeAt state index refusal →
-      IsStuck game place refusal
-  no_memory : IsStuck game place Memory
-
-pub record IsNotPlayedOn (state : AbstractState) (refusal : QuestionError) : Type 0 where
-  pub moves : List (List (ℕ × ℕ))
-  pub to : AbstractPlace
-  pub plays : Plays state.game state.place moves to
-  pub stuck : IsStuck state.game to refusal
+pub data IsNotPlayedOn (game : AbstractGame) (place : AbstractPlace) (most : ℕ) : QuestionError → Type 0 where
+  stuck : {moves : List (List (ℕ × ℕ))} {to : AbstractPlace} {refusal : QuestionError} →
+      Plays game place moves to →
+      length moves < most →
+      IsUnmoved game to refusal →
+      IsNotPlayedOn game place most refusal
+  no_memory : IsNotPlayedOn game place most Memory
 
 -- What becomes of a handle that gets a copy on which moves are made by chance.
 --   holds_nothing: the other one holds nothing, and all is as before.
@@ -120,7 +115,7 @@ pub data PlaysCopy (from : Option AbstractState) (most : ℕ) (before after : Op
   fails : {state : AbstractState} →
       from ≡ Some state →
       after ≡ before →
-      Refuses (IsNotPlayedOn state) result →
+      Refuses (IsNotPlayedOn state.game state.place most) result →
       PlaysCopy from most before after made result
 
 -- A state is kept in a handle, and numbers are put into a buffer.
@@ -160,5 +155,5 @@ pub data Samples (from : Option AbstractState) (most : ℕ) (before after : Opti
       from ≡ Some state →
       after ≡ before →
       new ≡ old →
-      Refuses (IsNotPlayedOn state) result →
+      Refuses (IsNotPlayedOn state.game state.place most) result →
       Samples from most before after old new needed result

@@ -1,9 +1,10 @@
 -- A state of a game: where play stands, and the places before.
-use Rattle.std.specs.Prelude.{◌≡◌, ◌≢◌, ℕ, List, [], ◌∷◌, ◌++◌, length, slice_get, All, AllPairs, Contains, IfSome, Option, Some, None}
-use Rattle.rbg_rules.specs.Meaning.{AbstractGame, AbstractPlace, IsLegal, IsPlaceOf, Legal}
+use Rattle.std.specs.Prelude.{◌≡◌, ℕ, List, [], ◌∷◌, ◌++◌, length, slice_get, IfSome, Option, Some, None}
+use Rattle.rbg_rules.specs.Meaning.{AbstractGame, AbstractPlace, IsPlaceOf, Legal}
+use Rattle.rbg_questions.specs.Counting.{AreLegalMoves}
 use Rattle.rbg_questions.specs.Packing.{packed_of}
+use Rattle.rbg_questions.specs.Places.{AreReached}
 use Rattle.rbg_questions.specs.Sessions.{Leads}
-use Rattle.rbg_questions.specs.internal.Places.{AreReached}
 
 -- A state: its game, the place from which its moves count, the places before, from each of which a move of a player was
 -- made, and the place where play stands. The moves count from where the rules begin, until a place is unpacked. `found` are
@@ -15,20 +16,18 @@ pub record AbstractState : Type 0 where
   pub place : AbstractPlace
   pub found : Option (List (List (ℕ × ℕ)))
 
--- These are the legal moves of the place, each once.
-pub record AreMoves (game : AbstractGame) (place : AbstractPlace) (moves : List (List (ℕ × ℕ))) : Type 0 where
-  pub legal : All (IsLegal game place) moves
-  pub different : AllPairs (λ a b. a ≢ b) moves
-  pub whole : (pairs : List (ℕ × ℕ)) → IsLegal game place pairs → Contains moves pairs
-
 -- What holds of each state: play has led from its origin to its place through those before, and what was found are its moves.
 pub record IsState (state : AbstractState) : Type 0 where
   pub reached : AreReached state.game state.origin state.before state.place
-  pub found : IfSome state.found (AreMoves state.game state.place)
+  pub found : IfSome state.found (AreLegalMoves state.game state.place)
 
 -- the state at that place from which no move can be undone
 abbrev pub beginning_at : AbstractGame → (origin place : AbstractPlace) → AbstractState
 beginning_at game origin place = record { game = game; origin = origin; before = []; place = place; found = None }
+
+-- a copy of a state: no move can be undone there
+abbrev pub copy_of : AbstractState → AbstractState
+copy_of state = beginning_at state.game state.origin state.place
 
 -- the state after a move to that place
 abbrev pub moved_to : AbstractState → AbstractPlace → AbstractState
@@ -69,7 +68,7 @@ pub record Undoes (old new : AbstractState) : Type 0 where
 -- The legal moves were found: so many.
 pub record FindsMoves (old : AbstractState) (count : ℕ) (new : AbstractState) : Type 0 where
   pub moves : List (List (ℕ × ℕ))
-  pub are : AreMoves old.game old.place moves
+  pub are : AreLegalMoves old.game old.place moves
   pub many : count ≡ length moves
   pub is : new ≡ record { game = old.game; origin = old.origin; before = old.before; place = old.place; found = Some moves }
 

@@ -3,7 +3,8 @@ use Rattle.std.specs.Prelude.{◌≡◌, ℕ, ◌≤◌, List, length, slice_get
 use Rattle.rbg_base.specs.Move.{IsMoveLength}
 use Rattle.rbg_questions.specs.declared.question_error.QuestionError.{QuestionError}
 use Rattle.rbg_questions.specs.declared.question_error.QuestionError.TheVariants.{Illegal}
-use Rattle.rbg_questions.specs.internal.Places.{IsUnmade}
+use Rattle.rbg_questions.specs.Chance.{IsUnmoved}
+use Rattle.rbg_questions.specs.Places.{IsUnmade}
 use Rattle.rbg_c.specs.States.{AbstractState}
 
 -- Why the move at an index isn't made.
@@ -17,6 +18,7 @@ pub data IsUnmadeAt (state : AbstractState) (index : ℕ) : QuestionError → Ty
       state.found ≡ Some moves →
       slice_get moves index ≡ Some pairs →
       IsUnmade state.game state.place pairs refusal →
+      IsUnmoved state.game state.place refusal →
       IsUnmadeAt state index refusal
 
 -- Why the move of some pairs isn't made.

@@ -6,7 +6,7 @@ ghost use Rattle.rbg_c.specs.Playouts.{HandsOut, PlaysCopy, PlaysOut, Samples};
 use crate::filling::fill;
 use crate::handle::Handle;
 use crate::opening::keep;
-use crate::playouts::{play_rows, played_on};
+use crate::playouts::{play_rows, played_on, sampled_on};
 use crate::results::{EMPTY, OK, RANGE, SMALL, number};
 use crate::state::State;
 use rbg_questions::{Draw, MAX_COUNT};
@@ -78,8 +78,7 @@ pub extern "C" fn rbg_play_on(
 fn play_copy(alloc: Global, state: &State, to: &mut Handle, draw: Draw, made: &mut u64) -> u32
     ensures { PlaysCopy (Some state.now) draw.count to.old.value to.new.value made.new result }
 {
-    let mut numbers = Vec::new(alloc);
-    match played_on(state, draw, &mut numbers) {
+    match played_on(state, draw) {
         Ok(copy) => {
             *made = copy.moves_made() as u64;
             keep(alloc, copy, to)
@@ -107,7 +106,7 @@ pub extern "C" fn rbg_sample(
         None => EMPTY,
         Some(state) => {
             let mut moves = Vec::new(alloc);
-            let sampled = played_on(&state, Draw { seed, count: most }, &mut moves);
+            let sampled = sampled_on(&state, Draw { seed, count: most }, &mut moves);
             from.put(state);
             match sampled {
                 Ok(copy) => hand_out(copy, moves, to, numbers, needed),

@@ -1,6 +1,6 @@
 //! Calls that find moves, make them and undo them.
 ghost use Rattle.std.specs.Prelude.{◌≡◌, [], IfErr, OnErr, OnOk};
-ghost use Rattle.rbg_questions.specs.internal.Places.{IsUnfollowed, IsUnlisted, IsUnmade};
+ghost use Rattle.rbg_questions.specs.Places.{IsUnfollowed, IsUnlisted, IsUnmade};
 ghost use Rattle.rbg_c.specs.States.{FindsMoves, Hears, IsFoundAt, Makes, MakesFound, Undoes};
 ghost use Rattle.rbg_c.specs.Stepping.{IsNoMove, IsUnmadeAt};
 ghost use Rattle.rbg_c.specs.Calls.{Calls};

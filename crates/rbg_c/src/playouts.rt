@@ -1,11 +1,11 @@
 //! Moves and matches by chance from a state.
 ghost use Rattle.std.specs.Prelude.{◌≡◌, ◌<◌, ◌++◌, ℕ, List, IfErr, IfOk, OnErr, OnOk, map};
 ghost use Rattle.std.specs.List.{flat_map};
-ghost use Rattle.rbg_questions.specs.Chance.{IsUnplayed, counted_by};
+ghost use Rattle.rbg_questions.specs.Chance.{IsUnmoved, IsUnplayed, counted_by};
 ghost use Rattle.rbg_questions.specs.Limits.{IsCount};
 ghost use Rattle.rbg_c.specs.Listing.{numbers_of_move};
-ghost use Rattle.rbg_c.specs.Playouts.{ArePlayed, GoesOn, IsNotPlayedOn, IsStuck, TellsOn, copy_of, row_of};
-ghost use Rattle.rbg_c.specs.States.{IsFoundAt};
+ghost use Rattle.rbg_c.specs.Playouts.{ArePlayed, Chooses, IsNotPlayedOn, IsPlayedOn, TellsOn, row_of};
+ghost use Rattle.rbg_c.specs.States.{IsFoundAt, copy_of};
 
 use crate::listing::push_move;
 use crate::state::State;
@@ -58,55 +58,73 @@ fn push_row(tally: &EndingTally, rows: &mut Vec<u64>) -> Result<(), Memory>
     }
 }
 
-/// A copy of a state on which moves are made by chance, at most so many, until play is finished. Their numbers are appended,
-/// as `rbg_moves` has them.
-pub(crate) fn played_on(
+/// A copy of a state on which moves are made by chance, at most so many, until play is finished.
+pub(crate) fn played_on(state: &State, draw: Draw) -> Result<State, QuestionError>
+    ensures played { IfOk result (IsPlayedOn (copy_of state.now) draw.count) }
+    ensures stuck { IfErr result (IsNotPlayedOn state.now.game state.now.place draw.count) }
+{
+    let mut copy = state.try_clone()?;
+    play_on(&mut copy, draw)?;
+    Ok(copy)
+}
+
+/// The same, with the same moves from the same seed. Their numbers are appended, as `rbg_moves` has them.
+pub(crate) fn sampled_on(
     state: &State,
     draw: Draw,
     numbers: &mut Vec<u32>,
 ) -> Result<State, QuestionError>
     ensures played { IfOk result (λ played.
         TellsOn (copy_of state.now) draw.count played numbers.old.items numbers.new.items) }
-    ensures stuck { IfErr result (IsNotPlayedOn state.now) }
+    ensures stuck { IfErr result (IsNotPlayedOn state.now.game state.now.place draw.count) }
 {
     let mut copy = state.try_clone()?;
-    play_on(&mut copy, draw, numbers)?;
+    sample_on(&mut copy, draw, numbers)?;
     Ok(copy)
 }
 
-/// Makes moves by chance, at most so many, until play is finished, and appends their numbers.
-fn play_on(state: &mut State, draw: Draw, numbers: &mut Vec<u32>) -> Result<(), QuestionError>
-    ensures plays { OnOk result
-        (TellsOn state.old draw.count state.new numbers.old.items numbers.new.items) }
-    ensures stuck { IfErr result (IsNotPlayedOn state.old) }
+/// Makes moves by chance, at most so many, until play is finished.
+fn play_on(state: &mut State, draw: Draw) -> Result<(), QuestionError>
+    ensures plays { OnOk result (IsPlayedOn state.old draw.count state.new) }
+    ensures stuck { IfErr result (IsNotPlayedOn state.old.game state.old.place draw.count) }
 {
     let mut chance = Pcg32::seed_from_u64(draw.seed);
     for _ in 0..draw.count {
-        if !make_one(state, &mut chance, numbers)? {
+        let Some(index) = choose_one(state, &mut chance)? else {
             return Ok(());
-        }
+        };
+        state.make_found(index)?;
     }
     Ok(())
 }
 
-/// Makes a move by chance, and appends its numbers. False where there is no legal one.
-fn make_one(
-    state: &mut State,
-    chance: &mut Pcg32,
-    numbers: &mut Vec<u32>,
-) -> Result<bool, QuestionError>
-    ensures goes { IfOk result (λ moved.
-        GoesOn state.old moved state.new numbers.old.items numbers.new.items) }
-    ensures stuck { IfErr result (IsStuck state.old.game state.old.place) }
+/// Makes moves by chance, at most so many, until play is finished, and appends their numbers.
+fn sample_on(state: &mut State, draw: Draw, numbers: &mut Vec<u32>) -> Result<(), QuestionError>
+    ensures plays { OnOk result
+        (TellsOn state.old draw.count state.new numbers.old.items numbers.new.items) }
+    ensures stuck { IfErr result (IsNotPlayedOn state.old.game state.old.place draw.count) }
+{
+    let mut chance = Pcg32::seed_from_u64(draw.seed);
+    for _ in 0..draw.count {
+        let Some(index) = choose_one(state, &mut chance)? else {
+            return Ok(());
+        };
+        push_found(state, index, numbers)?;
+        state.make_found(index)?;
+    }
+    Ok(())
+}
+
+/// Finds the legal moves, and chooses one of them by chance. None where there is no legal one.
+fn choose_one(state: &mut State, chance: &mut Pcg32) -> Result<Option<usize>, QuestionError>
+    ensures chosen { IfOk result (λ index. Chooses state.old index state.new) }
+    ensures stuck { IfErr result (IsUnmoved state.old.game state.old.place) }
 {
     let count = state.find_moves()?;
     if count == 0 {
-        return Ok(false);
+        return Ok(None);
     }
-    let index = choose(count, chance);
-    push_found(state, index, numbers)?;
-    state.make_found(index)?;
-    Ok(true)
+    Ok(Some(choose(count, chance)))
 }
 
 /// Appends the numbers of the move that stands at an index among those that were found.

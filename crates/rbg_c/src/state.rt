@@ -5,12 +5,13 @@ ghost use Rattle.rbg_rules.specs.Meaning.{AbstractPlace, IsGame, IsPlaceOf, most
 ghost use Rattle.rbg_moves.specs.Settling.{IsEndless, MeetsHeavy, Settles};
 ghost use Rattle.rbg_questions.specs.declared.question_error.QuestionError.TheVariants.{Keeper, Over};
 ghost use Rattle.rbg_questions.specs.Chance.{AreTallied, IsUnplayed, counted_by};
+ghost use Rattle.rbg_questions.specs.Counting.{AreLegalMoves};
 ghost use Rattle.rbg_questions.specs.Keys.{key_of};
 ghost use Rattle.rbg_questions.specs.Limits.{IsCount};
 ghost use Rattle.rbg_questions.specs.Packing.{packed_of};
+ghost use Rattle.rbg_questions.specs.Places.{IsUnfollowed, IsUnlisted, IsUnmade};
 ghost use Rattle.rbg_questions.specs.Sessions.{HasLedTo, beginning_of};
-ghost use Rattle.rbg_questions.specs.internal.Places.{IsUnfollowed, IsUnlisted, IsUnmade};
-ghost use Rattle.rbg_c.specs.States.{AreMoves, FindsMoves, Hears, Makes, MakesFound, Undoes, Unpacks, beginning_at};
+ghost use Rattle.rbg_c.specs.States.{FindsMoves, Hears, Makes, MakesFound, Undoes, Unpacks, beginning_at, copy_of};
 ghost use Rattle.rbg_c.specs.Stepping.{IsUnmadeAt};
 
 use arrayvec::ArrayVec;
@@ -144,8 +145,7 @@ impl State {
 
     /// A copy of the state, of the same game, from which no move can be undone.
     pub fn try_clone(&self) -> Result<State, Memory>
-        ensures { IfOk result (λ copy.
-            copy ≡ beginning_at self.now.game self.now.origin self.now.place) }
+        ensures { IfOk result (λ copy. copy ≡ copy_of self.now) }
     {
         let game = Arc::try_clone(&self.game)?;
         let origin = Arc::try_clone(&self.origin)?;
@@ -284,7 +284,7 @@ impl State {
     pub fn moves(&self) -> Option<&MoveList>
         ensures { MatchOption result (self.now.found ≡ None)
             (λ moves. (self.now.found ≡ Some moves.now)
-            × AreMoves self.now.game self.now.place moves.now) }
+            × AreLegalMoves self.now.game self.now.place moves.now) }
     {
         match &self.found {
             Some(moves) => Some(moves),

@@ -13,7 +13,7 @@ use Rattle.rbg_questions.specs.Keys.{key_of}
 use Rattle.rbg_questions.specs.Packing.{packed_of, packed_text}
 use Rattle.rbg_questions.specs.Sessions.{AbstractSession, Leads}
 use Rattle.rbg_questions.specs.Answering.{AnswersIn, GoesBack, HasMoves, StandsAt, goes_on, lists, lists_all, makes, undoes, hears, heard_to, tells, tells_state, tells_key, tells_values, tells_board, tells_names, tells_shape, plays, packs, unpacks, placed_at, ends, moved_to, undone, Hears, answered, refused_line, IsLineRefused, refused, IsRefused}
-use Rattle.rbg_questions.specs.internal.Places.{AreReached}
+use Rattle.rbg_questions.specs.Places.{AreReached}
 use Rattle.rbg_questions.specs.internal.Shaping.{WritesShape}
 use Rattle.rbg_questions.proofs.Places.{led_before, not_finished, place_at}
 

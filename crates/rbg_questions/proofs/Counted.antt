@@ -12,7 +12,7 @@ use Rattle.rbg_questions.specs.declared.question.Question.TheVariants.{Moves, St
 use Rattle.rbg_questions.specs.Answers.{to_move, finished}
 use Rattle.rbg_questions.specs.Answering.{HasMoves, StandsAt, IsRefused, goes_on, is_over, heavy_to_list, heavy_to_count, no_memory}
 use Rattle.rbg_questions.specs.Sessions.{AbstractSession}
-use Rattle.rbg_questions.specs.internal.Places.{IsUnlisted, too_hard, no_room}
+use Rattle.rbg_questions.specs.Places.{IsUnlisted, too_hard, no_room}
 use Rattle.rbg_questions.specs.internal.Ordering.{IsInOrder}
 use Rattle.rbg_questions.specs.internal.Refusing.{refusal_of_over}
 
@@ -42,7 +42,11 @@ few_in_order moves ordered is few =
 -- there are so many moves as were gathered, where no list is as long as the limit
 pub has_moves : (game : AbstractGame) (place : AbstractPlace) (max : ℕ) (all : List (List (ℕ × ℕ))) (cut : Bool) (len count : ℕ) → IsGathered game place max all cut → len ≡ length all → len < 2 ^ 63 → 2 ^ 63 ≤ max → count ≡ len → HasMoves game place count
 has_moves game place max all true len count gathered same small large is = absurd (omega (arith, small, large, same, gathered.full refl))
-has_moves game place max all false len count gathered same small large is = record { all = all; legal = gathered.legal; different = gathered.different; whole = gathered.whole refl; many = is ∙ same }
+has_moves game place max all false len count gathered same small large is = record {
+  all = all;
+  are = record { legal = gathered.legal; different = gathered.different; whole = gathered.whole refl };
+  many = is ∙ same;
+}
 
 -- how play stands where there are so many moves
 nothing_in : {X : Type 0} (x : X) → Contains [] x → ⊥
@@ -54,7 +58,7 @@ none_left game place (x ∷ all) whole none = absurd (omega (arith, none))
 
 pub stands_over_none : (game : AbstractGame) (place : AbstractPlace) (count : ℕ) (scores : List ℕ) → HasMoves game place count → count ≡ 0 → scores ≡ take (length game.players) place.state.values → StandsAt game place (finished scores)
 stands_over_none game place count scores has none same =
-    subst (λ s. StandsAt game place (finished s)) (sym same) (is_over (none_left game place has.all has.whole (sym none ∙ has.many)))
+    subst (λ s. StandsAt game place (finished s)) (sym same) (is_over (none_left game place has.all has.are.whole (sym none ∙ has.many)))
 
 some_left : (game : AbstractGame) (place : AbstractPlace) (all : List (List (ℕ × ℕ))) → All (IsLegal game place) all → 0 < length all → ¬ Finished game place
 some_left game place [] legal some = absurd (omega (arith, some))
@@ -62,4 +66,4 @@ some_left game place (x ∷ all) legal some = λ over. let first = All-head (IsL
 
 pub stands_on_some : (game : AbstractGame) (place : AbstractPlace) (count player : ℕ) → HasMoves game place count → count ≢ 0 → player ≡ place.state.player → StandsAt game place (to_move player)
 stands_on_some game place count player has some same =
-    subst (λ n. StandsAt game place (to_move n)) (sym same) (goes_on (some_left game place has.all has.legal (omega (arith, some, has.many))))
+    subst (λ n. StandsAt game place (to_move n)) (sym same) (goes_on (some_left game place has.all has.are.legal (omega (arith, some, has.many))))

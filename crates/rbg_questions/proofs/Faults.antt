@@ -15,7 +15,8 @@ use Rattle.rbg_questions.specs.Answers.{to_move, finished}
 use Rattle.rbg_questions.specs.Packing.{packed_text}
 use Rattle.rbg_questions.specs.Answering.{IsRefused, StandsAt, goes_on, is_over}
 use Rattle.rbg_questions.specs.Answering as faults
-use Rattle.rbg_questions.specs.internal.Places.{IsUnmade, IsUntold, IsUnfollowed, IsNotUnpacked, no_place, no_bytes, heavy, memory, illegal, heavy_to_try, heavy_to_settle, endless, no_memory, not_legal, hard_to_try, lost}
+use Rattle.rbg_questions.specs.Places.{IsUnmade, IsUnfollowed, illegal, heavy_to_try, heavy_to_settle, endless, no_memory, not_legal, hard_to_try, lost}
+use Rattle.rbg_questions.specs.internal.Places.{IsUntold, IsNotUnpacked, no_place, no_bytes, heavy, memory}
 use Rattle.rbg_questions.specs.internal.Refusing.{refusal_of_over, refusal_of_unsettled}
 
 -- a question that was given up

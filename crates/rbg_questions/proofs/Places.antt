@@ -6,7 +6,8 @@ use Rattle.rbg_rules.specs.Meaning.{AbstractGame, AbstractPlace, Legal, Finished
 use Rattle.rbg_moves.specs.Settling.{Settles}
 use Rattle.rbg_questions.specs.Sessions.{AreHeard, no_move, one_more, HasLedTo, at_start, at_heard, by_move, Leads, beginning_of, AbstractSession}
 use Rattle.rbg_questions.specs.Answering.{GoesBack}
-use Rattle.rbg_questions.specs.internal.Places.{AreReached, IsHeardPlace}
+use Rattle.rbg_questions.specs.Places.{AreReached}
+use Rattle.rbg_questions.specs.internal.Places.{IsHeardPlace}
 
 no_end : {X : Type 0} (xs : List X) (x : X) (ys : List X) → [] ≡ xs ++ x ∷ ys → ⊥
 no_end [] x ys same = let apart : [] ≡ x ∷ ys = same in cc

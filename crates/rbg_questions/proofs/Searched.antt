@@ -21,7 +21,7 @@ use Rattle.rbg_questions.specs.Sessions.{AbstractSession, Leads}
 use Rattle.rbg_questions.specs.Summary.{finished_in, mean_text, total_of}
 use Rattle.rbg_questions.specs.internal.Bounds.{AreFew}
 use Rattle.rbg_questions.specs.internal.Ordering.{IsInOrder}
-use Rattle.rbg_questions.specs.internal.Places.{IsUnlisted, no_room, too_hard}
+use Rattle.rbg_questions.specs.Places.{IsUnlisted, no_room, too_hard}
 use Rattle.rbg_questions.specs.internal.Searching.{WritesMoves, WritesOne, WritesSearch}
 use Rattle.rbg_questions.proofs.Shaping.{and_then}
 use Rattle.rbg_questions.proofs.Tallies.{few_tallied}

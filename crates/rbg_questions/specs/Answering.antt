@@ -1,7 +1,7 @@
 -- What a session answers to a question, and why it refuses one.
-use Rattle.std.specs.Prelude.{◌≡◌, ◌≢◌, ℕ, ◌+◌, ◌<◌, ◌≤◌, List, [], ◌∷◌, ◌++◌, length, take, All, AllPairs, Contains, Bool, false, Option, Some, None}
+use Rattle.std.specs.Prelude.{◌≡◌, ◌≢◌, ℕ, ◌+◌, ◌<◌, ◌≤◌, List, [], ◌∷◌, ◌++◌, length, take, Bool, false, Option, Some, None}
 use Rattle.std.specs.Borrow.{Bor}
-use Rattle.rbg_rules.specs.Meaning.{AbstractGame, AbstractPlace, AbstractAction, IsLegal, Legal, Finished, list_moves, IsPlaceOf, IsHeavyToFind, IsHeavyToTry, IsTooHard}
+use Rattle.rbg_rules.specs.Meaning.{AbstractGame, AbstractPlace, AbstractAction, Legal, Finished, list_moves, IsPlaceOf, IsHeavyToFind, IsHeavyToTry, IsTooHard}
 use Rattle.rbg_moves.specs.Listing.{IsListed}
 use Rattle.rbg_moves.specs.Settling.{IsEndless, MeetsHeavy}
 use Rattle.rbg_questions.specs.declared.question.Question.{Question}
@@ -16,6 +16,7 @@ use Rattle.rbg_questions.specs.Keys.{key_of}
 use Rattle.rbg_questions.specs.Answers.{Answer, moves, to_move, finished, state, key, values, board, names, shape, by_chance, searched, sampled, packed, farewell, answer_text, refusal_text}
 use Rattle.rbg_questions.specs.Sessions.{AbstractSession, Leads}
 use Rattle.rbg_questions.specs.Chance.{Counted, AreTallied, IsUnplayed}
+use Rattle.rbg_questions.specs.Counting.{AreLegalMoves}
 use Rattle.rbg_questions.specs.Searching.{AreSearched, IsSampled, IsUnsampled, IsUnsearched, Searched}
 use Rattle.rbg_questions.specs.Shapes.{AreActions}
 
@@ -29,9 +30,7 @@ pub data StandsAt (game : AbstractGame) (place : AbstractPlace) : Answer → Typ
 -- The place has so many legal moves.
 pub record HasMoves (game : AbstractGame) (place : AbstractPlace) (count : ℕ) : Type 0 where
   pub all : List (List (ℕ × ℕ))
-  pub legal : All (IsLegal game place) all
-  pub different : AllPairs (λ a b. a ≢ b) all
-  pub whole : (pairs : List (ℕ × ℕ)) → IsLegal game place pairs → Contains all pairs
+  pub are : AreLegalMoves game place all
   pub many : count ≡ length all
 
 -- the session where a move that was heard leads to that place

@@ -5,6 +5,7 @@ pub mod Packing
 pub mod Questions
 pub mod Misfits
 pub mod Sessions
+pub mod Places
 pub mod Chance
 pub mod Fields
 pub mod Shapes

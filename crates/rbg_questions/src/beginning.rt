@@ -1,8 +1,8 @@
 //! Sequences of moves from the beginning of play.
-ghost use Rattle.std.specs.Prelude.{IfErr, IfOk, None};
-ghost use Rattle.rbg_rules.specs.Meaning.{start_of};
+ghost use Rattle.std.specs.Prelude.{IfErr, IfOk};
 ghost use Rattle.rbg_questions.specs.Counting.{AreCounted};
 ghost use Rattle.rbg_questions.specs.Refusals.{IsNotCounted};
+ghost use Rattle.rbg_questions.specs.Sessions.{beginning_of};
 
 use crate::counting::{Counts, count_sequences};
 use crate::error::CountError;
@@ -17,10 +17,10 @@ pub fn count_from_start(
     workspace: &mut Workspace,
 ) -> Result<Counts, CountError>
     ensures counted { IfOk result (λ counts.
-        AreCounted game.now moves extent (record { state = start_of game.now; last = None })
+        AreCounted game.now moves extent (beginning_of game.now)
         counts.sequences counts.ended) }
     ensures refused { IfErr result
-        (IsNotCounted game.now moves extent (record { state = start_of game.now; last = None })) }
+        (IsNotCounted game.now moves extent (beginning_of game.now)) }
 {
     let place = game.start()?;
     count_sequences(game, place, moves, extent, workspace)

@@ -9,7 +9,8 @@ ghost use Rattle.rbg_questions.specs.Limits.{longest_line};
 ghost use Rattle.rbg_questions.specs.Questions.{QuestionHasSpelling};
 ghost use Rattle.rbg_questions.specs.Sessions.{AbstractSession, HasLedTo, beginning_of};
 ghost use Rattle.rbg_questions.specs.internal.Codes.{coded_session};
-ghost use Rattle.rbg_questions.specs.internal.Places.{AreReached, IsHeardPlace};
+ghost use Rattle.rbg_questions.specs.Places.{AreReached};
+ghost use Rattle.rbg_questions.specs.internal.Places.{IsHeardPlace};
 ghost use Rattle.rbg_questions.specs.internal.Telling.{Tells};
 
 use crate::answer_writer::{

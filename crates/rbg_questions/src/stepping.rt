@@ -6,7 +6,8 @@ ghost use Rattle.rbg_questions.specs.Answers.{standing_answer};
 ghost use Rattle.rbg_questions.specs.Answering.{HasMoves, StandsAt};
 ghost use Rattle.rbg_questions.specs.Chance.{IsUnmoved};
 ghost use Rattle.rbg_questions.specs.Sessions.{Leads};
-ghost use Rattle.rbg_questions.specs.internal.Places.{IsUnfollowed, IsUnlisted, IsUnmade, IsUntold};
+ghost use Rattle.rbg_questions.specs.Places.{IsUnfollowed, IsUnlisted, IsUnmade};
+ghost use Rattle.rbg_questions.specs.internal.Places.{IsUntold};
 
 use crate::play_standing::PlayStanding;
 use crate::question_error::QuestionError;

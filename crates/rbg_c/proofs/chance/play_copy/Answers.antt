@@ -6,5 +6,5 @@ use Rattle.rbg_c.proofs.chance.play_copy.Goals as goal
 pub returns-in-Ok : goal.returns-in-Ok
 returns-in-Ok c = plays_copy refl c.in-Ok.ensures.played.plays c.moves_made.ensures.count c.keep.ensures
 
-pub returns : goal.returns
-returns c = fails refl refl (record { refusal = c.in-Err.refusal; why = c.in-Err.ensures.stuck; is = c.number.ensures.number })
+pub returns-in-Err : goal.returns-in-Err
+returns-in-Err c = fails refl refl (record { refusal = c.in-Err.refusal; why = c.in-Err.ensures.stuck; is = c.number.ensures.number })

@@ -13,6 +13,6 @@ returns-in-Err-clause-to c =
     stopped c.in-Some.ensures.taken refl refl
     (record {
       refusal = c.in-Err.refusal;
-      why = subst (λ (s : AbstractState). IsNotPlayedOn s c.in-Err.refusal) c.deref.ensures c.in-Err.ensures.stuck;
+      why = subst (λ (s : AbstractState). IsNotPlayedOn s.game s.place c.args.most c.in-Err.refusal) c.deref.ensures c.in-Err.ensures.stuck;
       is = c.number.ensures.number;
     })

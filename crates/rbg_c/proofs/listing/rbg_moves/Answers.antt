@@ -1,6 +1,6 @@
 -- The moves are found and told, or the question was given up.
 use Rattle.std.proofs.Common.{refl, subst}
-use Rattle.rbg_questions.specs.internal.Places.{IsUnlisted}
+use Rattle.rbg_questions.specs.Places.{IsUnlisted}
 use Rattle.rbg_c.specs.States.{AbstractState}
 use Rattle.rbg_c.specs.Listing.{unlisted}
 use Rattle.rbg_c.proofs.Kept.{kept_there}

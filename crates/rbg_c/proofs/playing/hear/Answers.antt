@@ -1,6 +1,6 @@
 -- The pairs are a move's, which is made or refused, or they are too few or too many.
 use Rattle.std.proofs.Common.{ℕ, List}
-use Rattle.rbg_questions.specs.internal.Places.{IsUnfollowed}
+use Rattle.rbg_questions.specs.Places.{IsUnfollowed}
 use Rattle.rbg_c.specs.Stepping.{no_length}
 use Rattle.rbg_c.proofs.Unmade.{no_move_of}
 use Rattle.rbg_c.proofs.playing.hear.Goals as goal

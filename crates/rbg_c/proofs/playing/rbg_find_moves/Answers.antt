@@ -1,6 +1,6 @@
 -- The moves are found, or the question was given up.
 use Rattle.std.proofs.Common.{refl, subst}
-use Rattle.rbg_questions.specs.internal.Places.{IsUnlisted}
+use Rattle.rbg_questions.specs.Places.{IsUnlisted}
 use Rattle.rbg_c.specs.States.{AbstractState, FindsMoves}
 use Rattle.rbg_c.specs.Calls.{done, failed}
 use Rattle.rbg_c.proofs.Kept.{kept_there}

@@ -1,6 +1,6 @@
 -- The move is made, or it isn't.
 use Rattle.std.proofs.Common.{refl, subst}
-use Rattle.rbg_questions.specs.internal.Places.{IsUnfollowed}
+use Rattle.rbg_questions.specs.Places.{IsUnfollowed}
 use Rattle.rbg_c.specs.States.{AbstractState, Hears}
 use Rattle.rbg_c.specs.Stepping.{IsNoMove}
 use Rattle.rbg_c.specs.Calls.{done, failed}

@@ -1,6 +1,6 @@
 -- The move is made, or it isn't.
 use Rattle.std.proofs.Common.{refl, subst}
-use Rattle.rbg_questions.specs.internal.Places.{IsUnmade}
+use Rattle.rbg_questions.specs.Places.{IsUnmade}
 use Rattle.rbg_c.specs.States.{AbstractState, Makes}
 use Rattle.rbg_c.specs.Stepping.{IsNoMove}
 use Rattle.rbg_c.specs.Calls.{done, failed}

@@ -1,6 +1,6 @@
--- So many moves were made, and their numbers are appended.
+-- So many moves were made.
 use Rattle.rbg_c.proofs.ByChance.{GoneOn}
 use Rattle.rbg_c.proofs.playouts.play_on.Given as goal
 
 abbrev pub invariant-loop : goal.invariant-loop
-invariant-loop l = GoneOn l.initial.state l.counter l.state l.fn.numbers.items l.numbers.items
+invariant-loop l = GoneOn l.initial.state l.counter l.state

@@ -3,17 +3,17 @@ use Rattle.std.proofs.Common.{subst}
 use Rattle.rbg_questions.specs.declared.question_error.QuestionError.TheVariants.{Memory}
 use Rattle.rbg_base.proofs.Errors.{passed_on}
 use Rattle.rbg_c.specs.States.{AbstractState}
-use Rattle.rbg_c.specs.Playouts.{TellsOn}
-use Rattle.rbg_c.proofs.ByChance.{copy_stuck, no_copy}
+use Rattle.rbg_c.specs.Playouts.{IsPlayedOn, no_memory}
+use Rattle.rbg_c.proofs.ByChance.{copy_stuck}
 use Rattle.rbg_c.proofs.playouts.played_on.Goals as goal
 
 pub returns-in_err-copy-clause-stuck : goal.returns-in_err-copy-clause-stuck
-returns-in_err-copy-clause-stuck c = passed_on c.from_residual.result Memory _ c.from_residual.ensures.1 (no_copy _)
+returns-in_err-copy-clause-stuck c = passed_on c.from_residual.result Memory _ c.from_residual.ensures.1 no_memory
 
 pub returns-in_err-play_on-clause-stuck : goal.returns-in_err-play_on-clause-stuck
 returns-in_err-play_on-clause-stuck c =
-    passed_on c.from_residual-in_err-play_on.result c.in_err-play_on.field-0.0 _ c.from_residual-in_err-play_on.ensures.1 (copy_stuck _ _ _ c.in_ok-copy.ensures c.in_err-play_on.ensures.stuck)
+    passed_on c.from_residual-in_err-play_on.result c.in_err-play_on.field-0.0 _ c.from_residual-in_err-play_on.ensures.1 (copy_stuck c.args.state.now _ _ _ c.in_ok-copy.ensures c.in_err-play_on.ensures.stuck)
 
 pub returns-clause-played : goal.returns-clause-played
 returns-clause-played c =
-    subst (λ (s : AbstractState). TellsOn s c.args.draw.count c.play_on.new.state c.args.numbers.now.items c.play_on.new.numbers.items) c.in_ok-copy.ensures c.in_ok-play_on.ensures.plays
+    subst (λ (s : AbstractState). IsPlayedOn s c.args.draw.count c.play_on.new.state) c.in_ok-copy.ensures c.in_ok-play_on.ensures.plays

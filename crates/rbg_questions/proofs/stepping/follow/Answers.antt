@@ -1,5 +1,5 @@
 -- The move isn't legal, or the question was given up.
-use Rattle.rbg_questions.specs.internal.Places.{not_legal}
+use Rattle.rbg_questions.specs.Places.{not_legal}
 use Rattle.rbg_questions.specs.internal.Refusing.{refusal_of_over}
 use Rattle.rbg_questions.proofs.Faults.{try_unfollowed}
 use Rattle.rbg_base.proofs.Errors.{passed_on}

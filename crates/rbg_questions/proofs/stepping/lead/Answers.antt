@@ -1,5 +1,5 @@
 -- The move isn't legal, or a question was given up, or the keeper's moves don't end.
-use Rattle.rbg_questions.specs.internal.Places.{illegal}
+use Rattle.rbg_questions.specs.Places.{illegal}
 use Rattle.rbg_questions.specs.internal.Refusing.{refusal_of_over, refusal_of_unsettled}
 use Rattle.rbg_questions.proofs.Faults.{try_unmade, settle_unmade}
 use Rattle.rbg_base.proofs.Errors.{passed_on}

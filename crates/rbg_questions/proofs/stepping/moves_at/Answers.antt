@@ -3,7 +3,7 @@ use Rattle.std.proofs.Common.{subst}
 use Rattle.rbg_rules.specs.Meaning.{AbstractPlace}
 use Rattle.rbg_moves.specs.Listing.{IsGathered}
 use Rattle.rbg_questions.specs.declared.question_error.QuestionError.TheVariants.{Memory}
-use Rattle.rbg_questions.specs.internal.Places.{no_room}
+use Rattle.rbg_questions.specs.Places.{no_room}
 use Rattle.rbg_questions.specs.internal.Refusing.{refusal_of_over}
 use Rattle.rbg_questions.proofs.Counted.{gather_unlisted}
 use Rattle.rbg_base.proofs.Errors.{passed_on}

@@ -4,7 +4,7 @@ use Rattle.rbg_rules.specs.Meaning.{AbstractPlace, IsLegal, IsPlaceOf, Legal}
 use Rattle.rbg_questions.specs.declared.question_error.QuestionError.TheVariants.{Memory}
 use Rattle.rbg_questions.specs.Chance.{no_memory}
 use Rattle.rbg_questions.specs.internal.Refusing.{refusal_of_unsettled}
-use Rattle.rbg_questions.specs.internal.Places.{no_memory as no_memory_there}
+use Rattle.rbg_questions.specs.Places.{no_memory as no_memory_there}
 use Rattle.rbg_questions.proofs.Faults.{settle_unmade}
 use Rattle.rbg_questions.proofs.PlayedMatches.{settle_unmoved}
 use Rattle.rbg_base.proofs.Errors.{passed_on}

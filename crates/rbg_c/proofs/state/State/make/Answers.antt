@@ -1,6 +1,6 @@
 -- The move isn't made, or there was no memory, or the state goes on.
 use Rattle.rbg_questions.specs.declared.question_error.QuestionError.TheVariants.{Memory}
-use Rattle.rbg_questions.specs.internal.Places.{no_memory}
+use Rattle.rbg_questions.specs.Places.{no_memory}
 use Rattle.rbg_base.proofs.Errors.{passed_on}
 use Rattle.rbg_c.proofs.Found.{unmade_in}
 use Rattle.rbg_c.proofs.Places.{made_state}

@@ -1,10 +1,11 @@
--- There is no such move, or the keeper's moves behind it don't end, or there was no memory, or the state goes on.
+-- There is no such move, or the keeper's moves after it don't end, or there was no memory, or the state goes on.
 use Rattle.std.proofs.Common.{arith}
 use Rattle.rbg_questions.specs.declared.question_error.QuestionError.TheVariants.{Memory}
-use Rattle.rbg_questions.specs.internal.Places.{no_memory}
+use Rattle.rbg_questions.specs.Chance.{no_memory as not_moved}
+use Rattle.rbg_questions.specs.Places.{no_memory}
 use Rattle.rbg_base.proofs.Errors.{passed_on}
 use Rattle.rbg_c.specs.Stepping.{not_asked, too_few, unmade}
-use Rattle.rbg_c.proofs.Found.{legal_found, unmade_in}
+use Rattle.rbg_c.proofs.Found.{legal_found, unmade_in, unmoved_in}
 use Rattle.rbg_c.proofs.Places.{made_state}
 use Rattle.rbg_c.proofs.state.State.make_found.Goals as goal
 
@@ -22,12 +23,13 @@ pub returns-in_err-to-clause-refused : goal.returns-in_err-to-clause-refused
 returns-in_err-to-clause-refused c =
     rw (← c.self.view_is)
     (passed_on c.from_residual.result c.in_err-to.field-0.0 _ c.from_residual.ensures.1
-    (unmade c.in-Some.is c.get.ensures.pairs (unmade_in _ _ _ _ c.self.invariant c.deref.ensures c.in_err-to.ensures.unmade)))
+    (unmade c.in-Some.is c.get.ensures.pairs (unmade_in _ _ _ _ c.self.invariant c.deref.ensures c.in_err-to.ensures.unmade)
+    (unmoved_in _ _ _ c.self.invariant c.deref.ensures c.in_err-to.ensures.unmoved)))
 
 pub returns-in_err-reserve-clause-refused : goal.returns-in_err-reserve-clause-refused
 returns-in_err-reserve-clause-refused c =
     rw (← c.self.view_is)
-    (passed_on c.from_residual-in_err-reserve.result Memory _ c.from_residual-in_err-reserve.ensures.1 (unmade c.in-Some.is c.get.ensures.pairs no_memory))
+    (passed_on c.from_residual-in_err-reserve.result Memory _ c.from_residual-in_err-reserve.ensures.1 (unmade c.in-Some.is c.get.ensures.pairs no_memory not_moved))
 
 pub invariant_of-self-2 : goal.invariant_of-self-2
 invariant_of-self-2 c =
