@@ -127,7 +127,7 @@ HEAVY_RULES = "sequence(20000) one_sum(20000) starred_sum(20000) stars_in_a_row(
 
 
 # Functions, by patterns of their symbols.
-QUESTIONS = r".*PlayedGame::find_move", r".*PlayedGame::try_move"
+QUESTIONS = r".*finding::walk_from(::.*)?", r".*PlayedGame::try_move"
 
 
 DEPTHS = {
