@@ -58,7 +58,7 @@ def main() -> int:
     parser.add_argument("port", type=int, help="the port on 127.0.0.1 on which the match is served")
     parser.add_argument("--random", type=int, metavar="SEED", help="choose at random; the seed of --think")
     parser.add_argument("--think", type=int, metavar="MS", help="choose by playouts for so long, at most half a turn")
-    parser.add_argument("--rbg", default="./rbg", metavar="PROGRAM", help="the program rbg, which is asked for the rules")
+    parser.add_argument("--rbg", metavar="PROGRAM", help="the program rbg, which is asked for the rules: that of the variable RBG, or ./rbg")
     parser.add_argument("--record", metavar="FILE", help="send the moves of a record")
     parser.add_argument("--match", type=int, metavar="K", help="join match K of a hall")
     words = parser.parse_args()

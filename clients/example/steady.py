@@ -30,7 +30,7 @@ def main():
     parser = argparse.ArgumentParser(description=__doc__.splitlines()[0])
     parser.add_argument("port", type=int)
     parser.add_argument("--seed", type=int, default=1)
-    parser.add_argument("--rbg", default="./rbg")
+    parser.add_argument("--rbg", metavar="PROGRAM", help="the program rbg: that of the variable RBG, or ./rbg")
     parser.add_argument("--slow", type=float, default=0.0, metavar="MS", help="milliseconds to wait before each move")
     words = parser.parse_args()
 
