@@ -12,6 +12,7 @@ use crate::list::{Gathered, Listed, gather_moves, list_sorted};
 use crate::making::make_pairs;
 use crate::place::Place;
 use crate::trying::try_pairs;
+use crate::weights::Weights;
 use crate::workspace::Workspace;
 use arrayvec::ArrayVec;
 use rbg_auto::{Compact, Steps, compact};
@@ -30,6 +31,8 @@ pub struct PlayedGame {
     automaton: Compact,
     /// How its flat parts are led on.
     paths: Paths,
+    /// By what moves are drawn, where that is wanted.
+    weights: Option<Weights>,
 }
 
 impl Model for PlayedGame {
@@ -59,6 +62,7 @@ impl Drop for PlayedGame {
             game: _,
             automaton: _,
             paths: _,
+            weights: _,
         } = self;
     }
 }
@@ -76,12 +80,35 @@ impl PlayedGame {
             game,
             automaton,
             paths,
+            weights: None,
         })
+    }
+
+    /// Makes the weights by which `draw_move` draws moves. A game whose weights aren't made draws none.
+    pub fn weigh(&mut self) -> Result<(), Memory>
+        ensures { self.new ≡ self.old }
+    {
+        self.weights = Weights::new(self.alloc, &self.game, &self.automaton)?;
+        Ok(())
+    }
+
+    /// The weights by which moves are drawn, if they were made.
+    #[inline(always)]
+    pub(crate) fn weights(&self) -> Option<&Weights> {
+        match &self.weights {
+            Some(weights) => Some(weights),
+            None => None,
+        }
+    }
+
+    #[inline(always)]
+    pub(crate) fn alloc(&self) -> Global {
+        self.alloc
     }
 
     /// The game with the steps of its rules, by which searches go.
     #[inline(always)]
-    fn rules(&self) -> GameSteps<'_, Compact>
+    pub(crate) fn rules(&self) -> GameSteps<'_, Compact>
         ensures { result ≡ self.now }
     {
         GameSteps::new(&self.game, &self.automaton, Some(&self.paths))
