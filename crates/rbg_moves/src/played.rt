@@ -84,11 +84,14 @@ impl PlayedGame {
         })
     }
 
-    /// Makes the weights by which `draw_move` draws moves. A game whose weights aren't made draws none.
+    /// Makes the weights by which `draw_move` draws moves, if it hasn't yet. A game without them draws none. They take a part
+    /// of the time that it takes to make the game ready, so they are made for those alone who play by chance.
     pub fn weigh(&mut self) -> Result<(), Memory>
         ensures { self.new ≡ self.old }
     {
-        self.weights = Weights::new(self.alloc, &self.game, &self.automaton)?;
+        if self.weights.is_none() {
+            self.weights = Weights::new(self.alloc, &self.game, &self.automaton)?;
+        }
         Ok(())
     }
 

@@ -14,7 +14,10 @@ const MOST_MOVES: u32 = 2048;
 /// The most weights that are kept.
 const MOST_WEIGHTS: usize = 1 << 20;
 
-/// The most pairs of a position and a vertex that are looked at, for all weights together.
+/// The most pairs of a position and a vertex that are looked at for one weight.
+const LONGEST_WALK: usize = 1 << 10;
+
+/// The most that are looked at for all weights together.
 const MOST_LOOKS: u32 = 1 << 20;
 
 /// The most shifts of a pattern that are followed.
@@ -227,7 +230,7 @@ impl Walk {
     ) -> Result<Option<u32>, Memory> {
         self.begin(steps, weights, from)?;
         let mut moves = 0_u32;
-        for _ in 0..MOST_LOOKS {
+        for _ in 0..LONGEST_WALK {
             let Some(pair) = self.todo.pop() else {
                 return Ok(Some(moves));
             };
@@ -258,7 +261,7 @@ impl Walk {
         from: Pair,
     ) -> Result<bool, Memory> {
         self.begin(steps, weights, from)?;
-        for _ in 0..MOST_LOOKS {
+        for _ in 0..LONGEST_WALK {
             let Some(pair) = self.todo.pop() else {
                 return Ok(false);
             };
