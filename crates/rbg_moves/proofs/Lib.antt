@@ -10,6 +10,8 @@ pub mod Lines
 pub mod Following
 pub mod Forcing
 pub mod Copies
+pub mod Choices
+pub mod Drawings
 pub mod Scoring
 mod Taking
 pub mod Tallies

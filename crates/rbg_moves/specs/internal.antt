@@ -4,3 +4,4 @@ pub mod Gathering
 pub mod Stepping
 pub mod Fronts
 pub mod Lines
+pub mod Drawing

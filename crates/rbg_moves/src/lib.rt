@@ -2,6 +2,8 @@
 #![tactic(auto)]
 
 mod asking;
+mod choosing;
+mod drawing;
 mod finding;
 mod game_place;
 pub mod laws;
@@ -13,11 +15,14 @@ mod played;
 mod playthrough;
 mod settling;
 mod stepping;
+mod tickets;
 mod trying;
 mod unsettled;
 mod walking;
+mod weights;
 mod workspace;
 
+pub use choosing::Choice;
 pub use finding::find_move;
 pub use game_place::GamePlace;
 pub use list::{Gathered, Listed, list_moves};

@@ -13,6 +13,7 @@ use crate::list::{Gathered, Listed, gather_moves, list_sorted};
 use crate::making::make_pairs;
 use crate::place::Place;
 use crate::trying::try_pairs;
+use crate::weights::Weights;
 use crate::workspace::Workspace;
 use arrayvec::ArrayVec;
 use rbg_auto::{Compact, Steps, compact};
@@ -31,6 +32,8 @@ pub struct PlayedGame {
     automaton: Compact,
     /// How its flat parts are led on.
     paths: Paths,
+    /// By what moves are drawn, where that is wanted.
+    weights: Option<Weights>,
 }
 
 impl Model for PlayedGame {
@@ -60,6 +63,7 @@ impl Drop for PlayedGame {
             game: _,
             automaton: _,
             paths: _,
+            weights: _,
         } = self;
     }
 }
@@ -77,12 +81,38 @@ impl PlayedGame {
             game,
             automaton,
             paths,
+            weights: None,
         })
+    }
+
+    /// Makes the weights by which `draw_move` draws moves, if it hasn't yet. A game without them draws none. They take a part
+    /// of the time that it takes to make the game ready, so they are made for those alone who play by chance.
+    pub fn weigh(&mut self) -> Result<(), Memory>
+        ensures { self.new ≡ self.old }
+    {
+        if self.weights.is_none() {
+            self.weights = Weights::new(self.alloc, &self.game, &self.automaton)?;
+        }
+        Ok(())
+    }
+
+    /// The weights by which moves are drawn, if they were made.
+    #[inline(always)]
+    pub(crate) fn weights(&self) -> Option<&Weights> {
+        match &self.weights {
+            Some(weights) => Some(weights),
+            None => None,
+        }
+    }
+
+    #[inline(always)]
+    pub(crate) fn alloc(&self) -> Global {
+        self.alloc
     }
 
     /// The game with the steps of its rules, by which searches go.
     #[inline(always)]
-    fn rules(&self) -> GameSteps<'_, Compact>
+    pub(crate) fn rules(&self) -> GameSteps<'_, Compact>
         ensures { result ≡ self.now }
     {
         GameSteps::new(&self.game, &self.automaton, Some(&self.paths))

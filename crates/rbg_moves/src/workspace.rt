@@ -1,5 +1,5 @@
 //! What questions leave to later ones.
-ghost use Rattle.std.specs.Prelude.{◌≡◌, [], IfOk};
+ghost use Rattle.std.specs.Prelude.{◌≡◌, [], IfOk, OnOk};
 
 use crate::place::Place;
 use rbg_base::{Memory, MoveList, Pair};
@@ -15,10 +15,33 @@ pub struct Workspace {
     /// The modifiers that a question has applied, each with its vertex; and where it looked for one move, the pairs of that
     /// move.
     pub(crate) front: Vec<Pair>,
+    /// What was written down while a move was drawn.
+    pub(crate) draws: Draws,
     /// Semi-states that are not in use.
     states: Vec<SemiState>,
     /// Lists of moves that are not in use.
     lists: Vec<MoveList>,
+}
+
+/// The lists that drawing a move takes. What they hold is of no use afterwards.
+#[derive(Drop)]
+pub(crate) struct Draws {
+    /// The modifiers that may begin the move.
+    pub first: Vec<Pair>,
+    /// How many tickets each of them has.
+    pub tickets: Vec<u64>,
+    /// The modifiers that come next.
+    pub next: Vec<Pair>,
+}
+
+impl Draws {
+    fn new(alloc: Global) -> Draws {
+        Draws {
+            first: Vec::new(alloc),
+            tickets: Vec::new(alloc),
+            next: Vec::new(alloc),
+        }
+    }
 }
 
 /// Written out, so that letting a workspace go is one call in the proofs of those who hold one, not a step for each part.
@@ -28,6 +51,7 @@ impl Drop for Workspace {
             buffers: _,
             tally: _,
             front: _,
+            draws: _,
             states: _,
             lists: _,
         } = self;
@@ -43,6 +67,7 @@ impl Workspace {
             buffers: Buffers::new(alloc),
             tally: Tally::new(),
             front: Vec::new(alloc),
+            draws: Draws::new(alloc),
             states: Vec::new(alloc),
             lists: Vec::new(alloc),
         }
@@ -95,6 +120,22 @@ impl Workspace {
         Ok(copy)
     }
 
+    /// The pairs of the move that was chosen last.
+    pub fn chosen(&self) -> &[Pair]
+        ensures { result.now ≡ self.now.front.items }
+    {
+        self.front.as_slice()
+    }
+
+    /// Keeps the pairs of a move that is chosen.
+    pub(crate) fn choose(&mut self, pairs: &[Pair]) -> Result<(), Memory>
+        ensures chosen { OnOk result (self.new.front.items ≡ pairs.now) }
+        ensures tally { self.new.tally ≡ self.old.tally }
+    {
+        self.front.clear();
+        self.front.extend_from_slice(pairs)
+    }
+
     /// Keeps a list of pairs that is no longer needed.
     pub fn keep_pairs(&mut self, pairs: Vec<Pair>)
         ensures tally { self.new.tally ≡ self.old.tally }
@@ -105,6 +146,7 @@ impl Workspace {
     /// Keeps a list of moves that is no longer needed.
     pub fn keep_moves(&mut self, moves: MoveList)
         ensures tally { self.new.tally ≡ self.old.tally }
+        ensures front { self.new.front.items ≡ self.old.front.items }
     {
         // where there is no memory, it is let go
         let _kept = self.lists.push(moves);

@@ -104,6 +104,12 @@ fn move_on(
     ensures in_game { OnOk result (IsPlaceOf game.now place.new) }
     ensures unmoved { IfErr result (IsUnmoved game.now place.old) }
 {
+    if game.draw_move(place, chance, workspace)? {
+        game.make_move(place, workspace.drawn())?;
+        chosen.add(1, workspace.drawn())?;
+        game.settle(place, workspace)?;
+        return Ok(true);
+    }
     let gathered = game.gather_moves(place, usize::MAX, workspace)?;
     let moves = gathered.moves;
     let count = moves.len();

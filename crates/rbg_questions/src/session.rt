@@ -107,7 +107,8 @@ impl Session {
         ensures heavy { result ≡ Err Heavy → MeetsHeavy game (beginning_of game) }
         ensures endless { result ≡ Err Endless → IsEndless game (beginning_of game) }
     {
-        let game = PlayedGame::new(alloc, game)?;
+        let mut game = PlayedGame::new(alloc, game)?;
+        game.weigh()?;
         let mut workspace = Workspace::new(alloc);
         let origin = game.start()?;
         let heard = game.start()?;
