@@ -1,5 +1,6 @@
 //! A legal move that is chosen by chance.
-ghost use Rattle.std.specs.Prelude.{◌≡◌, ◌<◌, IfNone, IfOk, IfSome};
+ghost use Rattle.std.specs.Prelude.{◌≡◌, ◌<◌, length, IfNone, IfOk, IfSome};
+ghost use Rattle.rbg_base.specs.Move.{IsMoveLength};
 ghost use Rattle.rbg_rules.specs.Meaning.{Finished, IsLegal, IsPlaceOf, list_moves as listing_moves};
 ghost use Rattle.rbg_moves.specs.Answers.{GivesUp};
 
@@ -34,6 +35,8 @@ impl PlayedGame {
         requires { IsPlaceOf self.now place.old }
         ensures legal { IfOk result (λ choice.
             IfSome choice (λ _. IsLegal self.now place.old workspace.new.front.items)) }
+        ensures sized { IfOk result (λ choice.
+            IfSome choice (λ _. IsMoveLength (length workspace.new.front.items))) }
         ensures finished { IfOk result (λ choice. IfNone choice (Finished self.now place.old)) }
         ensures given_up { GivesUp self.now listing_moves place.old result }
         ensures kept { place.new ≡ place.old }

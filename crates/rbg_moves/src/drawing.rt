@@ -1,6 +1,6 @@
 //! A legal move that is drawn by chance, without a list of all.
 ghost use Rattle.std.specs.Prelude.{◌≡◌, ◌<◌, ◌≤◌, [], length, All, IfOk, OnOk, Some, true};
-ghost use Rattle.rbg_base.specs.Move.{most_pairs};
+ghost use Rattle.rbg_base.specs.Move.{IsMoveLength, most_pairs};
 ghost use Rattle.rbg_rules.specs.Meaning.{IsLegal, IsPlaceOf, IsStateOf, point_of};
 ghost use Rattle.rbg_state.specs.History.{IsAfter};
 ghost use Rattle.rbg_moves.specs.internal.Drawing.{ComesNext, Follows};
@@ -47,6 +47,8 @@ impl PlayedGame {
         requires place { IsPlaceOf self.now place.old }
         ensures legal { IfOk result (λ drawn. drawn ≡ true
             → IsLegal self.now place.old workspace.new.front.items) }
+        ensures sized { IfOk result (λ drawn. drawn ≡ true
+            → IsMoveLength (length workspace.new.front.items)) }
         ensures kept { place.new ≡ place.old }
     {
         let Some(weights) = self.weights() else {
@@ -90,6 +92,7 @@ fn draw<S: Steps>(
     requires none { front.old.items ≡ [] }
     ensures legal { IfOk result (λ drawn. drawn ≡ true
         → IsLegal search.old.game (record { state = state.old.state; last = after }) front.new.items) }
+    ensures sized { IfOk result (λ drawn. drawn ≡ true → IsMoveLength (length front.new.items)) }
     ensures after { IsAfter state.old state.new }
 {
     find_next(search, state, after, &mut draws.first)?;

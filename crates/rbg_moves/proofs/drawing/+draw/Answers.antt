@@ -18,8 +18,10 @@ draw_after-is_switch-requires-clause-position g t c =
 pub draw_after-returns-then-is_switch-clause-follows :
     goal.draw_after-returns-then-is_switch-clause-follows
 draw_after-returns-then-is_switch-clause-follows g t c =
+    let pushed : length c.push.new.self.items ≡ length c.args.front.now.items + 1 = ap (λ (ys : List (ℕ × ℕ)). length ys) c.in_ok-push.ensures.items ∙ length_push c.args.front.now.items c.args.pair in
     move_ended c.args.search.now.game c.game-game.result.now c.game-game.ensures.game c.game-game.ensures.lawful.numbered c.args._after c.args.state.now.state c.args.pair c.pair.inside.position
     (ap (λ (q : ℕ × ℕ). q.1) c.pair.view_is) c.args.front.now.items c.push.new.self.items c.in_ok-push.ensures.items c.requires.next (c.is_switch.ensures.0 c.if-is_switch.true)
+    (omega (arith, pushed), omega (arith, pushed, c.requires.short))
 
 pub draw_after-draw_on-requires : goal.draw_after-draw_on-requires
 draw_after-draw_on-requires g t c κs within =
