@@ -11,6 +11,7 @@ pub mod Following
 pub mod Forcing
 pub mod Copies
 pub mod Scoring
+mod Taking
 pub mod Tallies
 pub mod Asked
 pub mod Results

@@ -6,6 +6,8 @@ pub mod Limits
 pub mod Settling
 pub mod Tallying
 pub mod internal
--- Where a game that is played move by move stands, and where a move leads.
+-- Where play begins, a place with its game, where a game that is played move by move stands, and where a move leads.
+pub mod GamePlaces
 pub mod Moving
 pub mod Playing
+pub mod Starting

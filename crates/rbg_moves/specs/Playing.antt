@@ -20,6 +20,10 @@ coded_playing =
     (λ t. record { game = t.0; place = t.1.0; in_a_row = t.1.1 })
     (λ _. refl)
 
+-- a game at a place, before any move is made from there
+abbrev pub playing_at : AbstractGame → AbstractPlace → Playing
+playing_at game place = record { game = game; place = place; in_a_row = 0 }
+
 -- who is to move
 abbrev pub mover_text : Playing → List ℕ
 mover_text at =

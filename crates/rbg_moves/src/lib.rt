@@ -3,6 +3,7 @@
 
 mod asking;
 mod finding;
+mod game_place;
 pub mod laws;
 mod line;
 mod list;
@@ -18,6 +19,7 @@ mod walking;
 mod workspace;
 
 pub use finding::find_move;
+pub use game_place::GamePlace;
 pub use list::{Gathered, Listed, list_moves};
 pub use place::Place;
 pub use played::PlayedGame;

@@ -1,6 +1,7 @@
 //! Where play stands in a game.
-ghost use Rattle.std.specs.Prelude.{◌≡◌, ◌↔◌, IfOk, IfSome, IfNone, IsTrue, OnOk, None};
-ghost use Rattle.rbg_rules.specs.Meaning.{start_of, IsLastOf, IsPlaceOf, IsStateOf};
+ghost use Rattle.std.specs.Prelude.{◌≡◌, ◌↔◌, IfOk, IfSome, IfNone, IsTrue, OnOk};
+ghost use Rattle.rbg_rules.specs.Meaning.{IsLastOf, IsPlaceOf, IsStateOf};
+ghost use Rattle.rbg_moves.specs.Starting.{start_place};
 
 use rbg_base::{Memory, Position};
 use rbg_rules::Game;
@@ -27,7 +28,7 @@ impl Place {
     /// The place where play begins.
     pub fn start(alloc: Global, game: &Game) -> Result<Place, Memory>
         ensures start { IfOk result (λ place.
-            place ≡ record { state = start_of game.now; last = None }) }
+            place ≡ start_place game.now) }
         ensures fits { IfOk result (λ place. IsStateOf game.now place.state) }
     {
         Ok(Place {

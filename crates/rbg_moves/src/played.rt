@@ -1,10 +1,11 @@
 //! A game that is made ready for play, and what play asks of its rules.
-ghost use Rattle.std.specs.Prelude.{◌≡◌, ◌↔◌, ◌<◌, ◌≤◌, ◌^◌, None, length, take, All, IfOk, IfSome, IsTrue, OnErr, OnOk};
-ghost use Rattle.rbg_rules.specs.Meaning.{IsGame, most_players, IsLegal, Legal, IsPlaceOf, find_move, list_moves as listing_moves, try_move, AbstractGame, start_of};
+ghost use Rattle.std.specs.Prelude.{◌≡◌, ◌↔◌, ◌<◌, ◌≤◌, ◌^◌, length, take, All, IfOk, IfSome, IsTrue, OnErr, OnOk};
+ghost use Rattle.rbg_rules.specs.Meaning.{IsGame, most_players, IsLegal, Legal, IsPlaceOf, find_move, list_moves as listing_moves, try_move, AbstractGame};
 ghost use Rattle.rbg_flat.specs.Paths.{ArePathsOf};
 ghost use Rattle.rbg_moves.specs.Answers.{FindsMove, TellsMove, ListsMoves, TriesMove};
 ghost use Rattle.rbg_moves.specs.Listing.{IsGathered, IsListed};
 ghost use Rattle.rbg_moves.specs.internal.Fronts.{FindsFront};
+ghost use Rattle.rbg_moves.specs.Starting.{start_place};
 ghost use Rattle.rbg_moves.specs.Tallying.{Tallies};
 
 use crate::finding::{find_front, find_pairs};
@@ -113,7 +114,7 @@ impl PlayedGame {
     /// The place where play begins.
     pub fn start(&self) -> Result<Place, Memory>
         ensures start { IfOk result (λ place.
-            place ≡ record { state = start_of self.now; last = None }) }
+            place ≡ start_place self.now) }
         ensures in_game { IfOk result (IsPlaceOf self.now) }
     {
         Place::start(self.alloc, &self.game)

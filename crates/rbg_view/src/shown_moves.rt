@@ -53,7 +53,7 @@ pub fn show(
     let game = PlayedGame::new(alloc, game)?;
     let wishes = Wishes::read(alloc, text)?;
     let sheet = Sheet::new(alloc, game.as_game(), &layout, &wishes, only_last)?;
-    let play = Playthrough::start(alloc, &game)?;
+    let play = Playthrough::start(&game)?;
     let mut showing = Showing {
         alloc,
         scene: Scene { play, sheet },
