@@ -4,7 +4,7 @@ use Rattle.std.specs.Prelude.{None}
 use Rattle.rbg_rules.specs.Meaning.{AbstractGame, AbstractPlace, Legal, IsPlaceOf}
 use Rattle.rbg_moves.specs.Settling.{KeeperMoves, none, more, Settles}
 use Rattle.rbg_questions.specs.Sessions.{AreHeard, no_move, one_more, HasLedTo, at_start, at_heard, by_move, Leads}
-use Rattle.rbg_questions.specs.Starting.{start_place}
+use Rattle.rbg_moves.specs.Starting.{start_place}
 use Rattle.rbg_questions.specs.Places.{AreReached}
 use Rattle.rbg_c.specs.States.{AbstractState, Hears, IsState, beginning_at}
 

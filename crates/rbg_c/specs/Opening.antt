@@ -5,7 +5,7 @@ use Rattle.rbg_moves.specs.Settling.{Settles}
 use Rattle.rbg_game.specs.Loading.{Loads, IsMemory, IsRefused}
 use Rattle.rbg_game.specs.declared.error.LoadError.{LoadError}
 use Rattle.rbg_questions.specs.Packing.{packed_of}
-use Rattle.rbg_questions.specs.Starting.{start_place}
+use Rattle.rbg_moves.specs.Starting.{start_place}
 use Rattle.rbg_c.specs.States.{AbstractState, Unpacks, beginning_at, copy_of}
 use Rattle.rbg_c.specs.Results.{ok, empty, memory, no_place, layer_of}
 

@@ -10,15 +10,15 @@ ghost use Rattle.rbg_questions.specs.Limits.{IsCount};
 ghost use Rattle.rbg_questions.specs.Packing.{packed_of};
 ghost use Rattle.rbg_questions.specs.Places.{AreLegalMoves, IsUnfollowed, IsUnlisted, IsUnmade};
 ghost use Rattle.rbg_questions.specs.Sessions.{HasLedTo};
-ghost use Rattle.rbg_questions.specs.Starting.{start_place};
+ghost use Rattle.rbg_moves.specs.Starting.{start_place};
 ghost use Rattle.rbg_c.specs.States.{FindsMoves, Hears, Makes, MakesFound, Undoes, Unpacks, beginning_at, copy_of};
 ghost use Rattle.rbg_c.specs.Stepping.{IsUnmadeAt};
 
 use arrayvec::ArrayVec;
 use rbg_base::{Memory, Move, MoveList, Piece, Player, Variable};
-use rbg_moves::{Place, PlayedGame, Workspace};
+use rbg_moves::{GamePlace, Place, PlayedGame, Workspace};
 use rbg_questions::{
-    Draw, EndingTally, GamePlace, QuestionError, first_place, follow, key_of, lead, moves_at, pack,
+    Draw, EndingTally, QuestionError, first_place, follow, key_of, lead, moves_at, pack,
     play_matches, step, unpack,
 };
 use rbg_rules::Game;

@@ -5,7 +5,7 @@ use Rattle.rbg_base.proofs.CallerLemmas.{slice_get-append_right}
 use Rattle.rbg_rules.specs.Meaning.{AbstractGame, AbstractPlace, Legal, Finished, IsPlaceOf}
 use Rattle.rbg_moves.specs.Settling.{Settles}
 use Rattle.rbg_questions.specs.Sessions.{AreHeard, no_move, one_more, HasLedTo, at_start, at_heard, by_move, Leads, AbstractSession}
-use Rattle.rbg_questions.specs.Starting.{start_place}
+use Rattle.rbg_moves.specs.Starting.{start_place}
 use Rattle.rbg_questions.specs.Answering.{GoesBack}
 use Rattle.rbg_questions.specs.Places.{AreReached}
 use Rattle.rbg_questions.specs.internal.Places.{IsHeardPlace}

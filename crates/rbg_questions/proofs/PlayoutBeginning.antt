@@ -6,7 +6,7 @@ use Rattle.rbg_questions.specs.declared.tally.EndingTally.{EndingTally}
 use Rattle.rbg_questions.specs.declared.question_error.QuestionError.{QuestionError}
 use Rattle.rbg_questions.specs.Chance.{AreTallied, Counted, IsUnplayed, counted_by}
 use Rattle.rbg_questions.specs.Limits.{IsCount}
-use Rattle.rbg_questions.specs.Starting.{start_place}
+use Rattle.rbg_moves.specs.Starting.{start_place}
 use Rattle.rbg_questions.specs.Places.{IsUnsettled}
 use Rattle.rbg_questions.proofs.Tallies.{few_tallied}
 use Rattle.rbg_questions.specs.Playing.{ArePlayouts, AreUnplayed, TellsPlayouts, unplayed, unsettled}

@@ -1,7 +1,5 @@
 -- What a session of questions is, and what it answers. Each file builds on those above it.
 pub mod Limits
-pub mod Starting
-pub mod GamePlaces
 pub mod Keys
 pub mod Packing
 pub mod Questions

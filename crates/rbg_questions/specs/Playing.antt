@@ -6,7 +6,7 @@ use Rattle.rbg_questions.specs.declared.question_error.QuestionError.{QuestionEr
 use Rattle.rbg_questions.specs.declared.question_error.QuestionError.TheVariants.{Memory}
 use Rattle.rbg_questions.specs.Chance.{AreTallied, Counted, IsUnplayed}
 use Rattle.rbg_questions.specs.Places.{IsUnsettled}
-use Rattle.rbg_questions.specs.Starting.{start_place}
+use Rattle.rbg_moves.specs.Starting.{start_place}
 use Rattle.rbg_questions.specs.Summary.{summary_text}
 
 -- So many matches are counted, from where the keeper's first moves lead.

@@ -2,7 +2,7 @@
 ghost use Rattle.std.specs.Prelude.{IfErr, IfOk};
 ghost use Rattle.rbg_questions.specs.Counting.{AreCounted};
 ghost use Rattle.rbg_questions.specs.Refusals.{IsNotCounted};
-ghost use Rattle.rbg_questions.specs.Starting.{start_place};
+ghost use Rattle.rbg_moves.specs.Starting.{start_place};
 
 use crate::counting::{Counts, count_sequences};
 use crate::error::CountError;

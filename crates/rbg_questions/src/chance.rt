@@ -7,12 +7,11 @@ ghost use Rattle.rbg_questions.specs.internal.Moving.{IsPlayedTo, MovesOn};
 
 use crate::chosen::Chosen;
 use crate::draw::Draw;
-use crate::game_place::GamePlace;
 use crate::question_error::QuestionError;
 use crate::tally::{Ending, EndingTally, Played, count_in};
 use rand_core::{Rng, SeedableRng};
 use rand_pcg::Pcg32;
-use rbg_moves::{Place, PlayedGame, Workspace};
+use rbg_moves::{GamePlace, Place, PlayedGame, Workspace};
 use std::alloc::Global;
 
 /// The most moves of the players in a match that is played by chance.

@@ -8,12 +8,11 @@ ghost use Rattle.rbg_rules.specs.Meaning.{AbstractPlace, IsPlaceOf};
 ghost use Rattle.rbg_questions.specs.internal.Places.{IsNotUnpacked};
 ghost use Rattle.rbg_questions.specs.Packing.{in_two, in_four, numbers_of, packed_of, packed_text, position_of};
 
-use crate::game_place::GamePlace;
 use crate::packing_writer::{FORM, put_packed};
 use crate::question_error::QuestionError;
 use hex::FromHexError;
 use rbg_base::{Memory, Position};
-use rbg_moves::{Place, PlayedGame};
+use rbg_moves::{GamePlace, Place, PlayedGame};
 use rbg_rules::Game;
 use rbg_state::LentState;
 use std::alloc::Global;

@@ -5,9 +5,9 @@ ghost use Rattle.rbg_wire.specs.Writing.{Appends, AppendsAll};
 ghost use Rattle.rbg_questions.specs.Answers.{packed as packed_answer, answer_text};
 ghost use Rattle.rbg_questions.specs.Packing.{in_two, in_four, packed_form, packed_of, position_of};
 
-use crate::game_place::GamePlace;
 use crate::stepping::values_at;
 use rbg_base::{Memory, Piece, Player, Position};
+use rbg_moves::GamePlace;
 use rbg_wire::all_or_nothing;
 use std::alloc::Global;
 

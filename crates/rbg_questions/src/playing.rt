@@ -7,12 +7,11 @@ ghost use Rattle.rbg_questions.specs.Playing.{ArePlayouts, AreUnplayed, TellsPla
 use crate::chance::play_seeded;
 use crate::chosen::Chosen;
 use crate::draw::Draw;
-use crate::game_place::GamePlace;
 use crate::question_error::QuestionError;
 use crate::summary_writer::put_summary;
 use crate::survey::Survey;
 use crate::tally::{EndingTally, count_in};
-use rbg_moves::{PlayedGame, Workspace};
+use rbg_moves::{GamePlace, PlayedGame, Workspace};
 use std::alloc::Global;
 
 /// Matches that were played by chance.

@@ -11,12 +11,11 @@ ghost use Rattle.rbg_questions.specs.internal.Searching.{IsMade, TellsMove, Writ
 use crate::answer_writer::{put_move_line, write_sampled};
 use crate::chance::choose;
 use crate::draw::Draw;
-use crate::game_place::GamePlace;
 use crate::question_error::QuestionError;
 use crate::stepping::standing_at;
 use rand_core::SeedableRng;
 use rand_pcg::Pcg32;
-use rbg_moves::{Place, PlayedGame, Workspace};
+use rbg_moves::{GamePlace, Place, PlayedGame, Workspace};
 
 /// Plays a match of at most so many moves by chance from a place, and appends the lines of its moves and of how play
 /// stands after them. On an error the bytes are unchanged.

@@ -13,7 +13,6 @@ ghost use Rattle.rbg_questions.specs.internal.Searching.{WritesMoves, WritesOne,
 use crate::answer_writer::put_head;
 use crate::chance::play_matches;
 use crate::draw::Draw;
-use crate::game_place::GamePlace;
 use crate::ordering::in_order;
 use crate::question_error::QuestionError;
 use crate::stepping::{is_in_memory, moves_at, step};
@@ -21,7 +20,7 @@ use crate::summary_writer::put_mean;
 use crate::sums::{Counting, add_scores, sum_of};
 use crate::tally::EndingTally;
 use rbg_base::{Memory, MoveList, Pair};
-use rbg_moves::Workspace;
+use rbg_moves::{GamePlace, Workspace};
 use rbg_rules::Game;
 use rbg_wire::{write_number, write_pairs};
 

@@ -8,7 +8,7 @@ ghost use Rattle.rbg_questions.specs.Answers.{to_move};
 ghost use Rattle.rbg_questions.specs.Limits.{longest_line};
 ghost use Rattle.rbg_questions.specs.Questions.{QuestionHasSpelling};
 ghost use Rattle.rbg_questions.specs.Sessions.{AbstractSession, HasLedTo};
-ghost use Rattle.rbg_questions.specs.Starting.{start_place};
+ghost use Rattle.rbg_moves.specs.Starting.{start_place};
 ghost use Rattle.rbg_questions.specs.internal.Codes.{coded_session};
 ghost use Rattle.rbg_questions.specs.Places.{AreReached};
 ghost use Rattle.rbg_questions.specs.internal.Places.{IsHeardPlace};
@@ -20,7 +20,6 @@ use crate::answer_writer::{
 };
 use crate::chance::play_matches;
 use crate::draw::Draw;
-use crate::game_place::GamePlace;
 use crate::keys::key_of;
 use crate::misfit::misfit_of;
 use crate::names_writer::write_names;
@@ -38,7 +37,7 @@ use crate::stepping::{
     count_at, follow, is_in_memory, lead, moves_at, pieces_at, standing_at, standing_of, values_at,
 };
 use rbg_base::{Memory, Move, Player};
-use rbg_moves::{Place, PlayedGame, Unsettled, Workspace};
+use rbg_moves::{GamePlace, Place, PlayedGame, Unsettled, Workspace};
 use rbg_rules::Game;
 use std::alloc::Global;
 use std::marker::Model;

@@ -8,11 +8,10 @@ ghost use Rattle.rbg_questions.specs.Answering.{HasMoves, StandsAt};
 ghost use Rattle.rbg_questions.specs.Sessions.{Leads};
 ghost use Rattle.rbg_questions.specs.Places.{IsAnswered, IsStopped, IsUnfollowed, IsUnlisted, IsUnmade, IsUntold};
 
-use crate::game_place::GamePlace;
 use crate::play_standing::PlayStanding;
 use crate::question_error::QuestionError;
 use rbg_base::{Move, MoveList, Pair, Piece};
-use rbg_moves::{Gathered, Place, Workspace};
+use rbg_moves::{GamePlace, Gathered, Place, Workspace};
 use rbg_state::LentState;
 
 /// The place to which a move leads with the keeper's moves after it.

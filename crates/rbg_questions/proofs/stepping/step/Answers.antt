@@ -1,5 +1,4 @@
 -- A legal move is made on a copy, or there was no memory, or the keeper's moves after it lead to no place where play rests.
-use Rattle.std.proofs.Common.{sym, ◌∙◌}
 use Rattle.rbg_questions.specs.declared.question_error.QuestionError.TheVariants.{Memory}
 use Rattle.rbg_questions.specs.internal.Refusing.{refusal_of_unsettled}
 use Rattle.rbg_questions.proofs.Faults.{stopped_after, stopped_at_once}

@@ -1,7 +1,7 @@
 -- The state stands where the rules begin.
 use Rattle.std.proofs.Common.{ap, ◌∙◌}
 use Rattle.rbg_rules.specs.Meaning.{AbstractGame}
-use Rattle.rbg_questions.specs.Starting.{start_place}
+use Rattle.rbg_moves.specs.Starting.{start_place}
 use Rattle.rbg_c.specs.States.{beginning_at}
 use Rattle.rbg_c.proofs.Places.{begun_state, begun_is}
 use Rattle.rbg_c.proofs.state.State.begin.Goals as goal

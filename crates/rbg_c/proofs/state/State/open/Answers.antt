@@ -1,7 +1,7 @@
 -- The keeper's first moves have led to the only place.
 use Rattle.std.proofs.Common.{ap, ◌∙◌}
 use Rattle.rbg_rules.specs.Meaning.{AbstractGame}
-use Rattle.rbg_questions.specs.Starting.{start_place}
+use Rattle.rbg_moves.specs.Starting.{start_place}
 use Rattle.rbg_c.specs.States.{beginning_at}
 use Rattle.rbg_c.proofs.Places.{first_state, first_is}
 use Rattle.rbg_c.proofs.state.State.open.Goals as goal
