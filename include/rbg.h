@@ -183,7 +183,8 @@ rbg_result rbg_undo(rbg_state *state);
 
 /* Plays this many random matches from here, 1 to 1,000,000, and says how they ended: for each ending a row of how many
    matches ended so, and each player's score. A match that isn't finished after 10,000 moves is stopped, and has no row.
-   A seed gives the same matches each time, which is tried, and not proved. The state is as before; room for (players + 1) * count numbers is always enough. */
+   A seed gives the same matches each time, which is tried, and not proved. The state is as before; room for
+   (players + 1) * count numbers is always enough. */
 rbg_result rbg_playouts(rbg_state *state, uint64_t seed, uint64_t count, uint64_t *rows, size_t room, uint64_t *needed);
 
 /* Makes `to` a copy of `from` on which random moves were made, at most `most`, until play is finished, and stores how
