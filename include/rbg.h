@@ -183,16 +183,18 @@ rbg_result rbg_undo(rbg_state *state);
 
 /* Plays this many random matches from here, 1 to 1,000,000, and says how they ended: for each ending a row of how many
    matches ended so, and each player's score. A match that isn't finished after 10,000 moves is stopped, and has no row.
-   A seed always gives the same matches. The state is as before; room for (players + 1) * count numbers is always enough. */
+   A seed gives the same matches each time, which is tried, and not proved. The state is as before; room for
+   (players + 1) * count numbers is always enough. */
 rbg_result rbg_playouts(rbg_state *state, uint64_t seed, uint64_t count, uint64_t *rows, size_t room, uint64_t *needed);
 
-/* Makes `to` a copy of `from` on which random moves were made, at most this many, until play is finished, and stores how
-   many. They can be undone there. A state that `to` held is let go, if the call succeeds. */
+/* Makes `to` a copy of `from` on which random moves were made, at most `most`, until play is finished, and stores how
+   many. They can be undone there. `most` may be any number: the call takes time for each move, and memory for the place
+   before it, so it is to be small for a game that may not end. A state that `to` held is let go, if the call succeeds. */
 rbg_result rbg_play_on(rbg_state *from, rbg_state *to, uint64_t seed, uint64_t most, uint64_t *made);
 
 /* As rbg_play_on, but it stores the moves that were made, as numbers in the form of rbg_moves, and how many numbers these are.
-   RBG_SMALL if they are more than the room: both handles are as before then. A seed always gives the same moves, those of
-   `sample` of `rbg ask`. */
+   RBG_SMALL if they are more than the room: both handles are as before then. A seed gives the same moves to both calls, those
+   of `sample` of `rbg ask`: that is tried (clients/c/trial.c), and not proved. */
 rbg_result rbg_sample(rbg_state *from, rbg_state *to, uint64_t seed, uint64_t most, uint32_t *numbers, size_t room, uint64_t *needed);
 
 #ifdef __cplusplus

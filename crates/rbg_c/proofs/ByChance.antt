@@ -6,16 +6,17 @@ use Rattle.std.proofs.lemmas.List.Concat.{flat_map-append}
 use Rattle.rbg_rules.specs.Meaning.{AbstractGame, AbstractPlace, Finished}
 use Rattle.rbg_questions.specs.declared.question_error.QuestionError.{QuestionError}
 use Rattle.rbg_questions.specs.declared.question_error.QuestionError.TheVariants.{Memory}
-use Rattle.rbg_questions.specs.Chance.{IsUnmoved, heavy_to_list, Plays, no_move, one_more, IsUnplayed, no_memory as no_room}
-use Rattle.rbg_questions.specs.Places.{IsUnlisted, too_hard, no_room as no_list}
+use Rattle.rbg_questions.specs.Chance.{IsUnmoved, Plays, no_move, one_more, IsUnplayed, stopped_at, unlisted}
+use Rattle.rbg_questions.specs.Places.{no_memory}
 use Rattle.rbg_questions.specs.Sessions.{Leads}
 use Rattle.rbg_c.specs.States.{AbstractState, FindsMoves, IsFoundAt, Makes, MakesFound, copy_of}
-use Rattle.rbg_c.specs.Stepping.{IsUnmadeAt, not_asked, too_few, unmade}
+use Rattle.rbg_c.specs.Stepping.{IsUnmadeAt, not_asked, stopped_there, too_few}
 use Rattle.rbg_c.specs.Filling.{Fills, filled, too_small}
 use Rattle.rbg_c.specs.Listing.{numbers_of_move, numbers_of_moves}
 use Rattle.rbg_c.specs.Opening.{Keeps, kept, lost}
 use Rattle.rbg_c.specs.Results.{ok}
-use Rattle.rbg_c.specs.Playouts.{Chooses, chosen, none_left, HandsOut, handed, unkept, IsNotPlayedOn, stuck, IsPlayedOn, Passes, none_made, one_made, PlaysCopy, PlaysOn, Samples, sampled, TellsOn}
+use Rattle.rbg_c.specs.Playouts.{HandsOut, handed, unkept, IsNotPlayedOn, stuck, Passes, none_made, one_made, PlaysCopy, PlaysOn, Samples, sampled}
+use Rattle.rbg_c.specs.internal.ByChance.{Chooses, chosen, none_left, IsPlayedOn, TellsOn}
 
 nothing_there : {X : Type 0} (xs : List X) (x : X) → Contains xs x → length xs ≡ 0 → ⊥
 nothing_there [] x h same = omega (arith, h.1)
@@ -24,11 +25,6 @@ nothing_there (y ∷ ys) x h same = omega (arith, same)
 -- play is finished where no move was found
 over_here : (old new : AbstractState) → FindsMoves old 0 new → Finished old.game old.place
 over_here old new finds = record { no_move = λ pairs to legal. nothing_there finds.moves pairs (finds.are.whole pairs (to, legal)) (sym finds.many) }
-
--- no move is made where the moves aren't listed
-pub unlisted_unmoved : (game : AbstractGame) (place : AbstractPlace) (refusal : QuestionError) → IsUnlisted game place refusal → IsUnmoved game place refusal
-unlisted_unmoved game place _ (too_hard hard) = heavy_to_list hard
-unlisted_unmoved game place _ no_list = no_room
 
 -- the move at an index among those that were found is told
 pub found_told : {E : Type 0} (result : Result (Unit {0}) E) (state : AbstractState) (index : ℕ) (moves : List (List (ℕ × ℕ))) (pairs : List (ℕ × ℕ)) (before after : List ℕ) → state.found ≡ Some moves → slice_get moves index ≡ Some pairs → OnOk result (after ≡ before ++ numbers_of_move pairs) → OnOk result ((others : List (ℕ × ℕ)) → IsFoundAt state index others → after ≡ before ++ numbers_of_move others)
@@ -62,7 +58,7 @@ stuck_here old mid count index _ finds within (too_few {moves} found few) =
     let both : Some moves ≡ Some finds.moves = sym found ∙ ap (λ (s : AbstractState). s.found) finds.is in
     let one : moves ≡ finds.moves = cc in
     absurd (omega (arith, within, few, finds.many, ap (λ (ms : List (List (ℕ × ℕ))). length ms) one))
-stuck_here old mid count index refusal finds within (unmade found there why unmoved) = unmoved
+stuck_here old mid count index refusal finds within (stopped_there found there why) = stopped_at why
 
 -- These moves were made by chance so far.
 pub record Gone (old : AbstractState) (moves : List (List (ℕ × ℕ))) (now : AbstractState) : Type 0 where
@@ -72,11 +68,12 @@ pub record Gone (old : AbstractState) (moves : List (List (ℕ × ℕ))) (now : 
   pub passes : Passes old.game old.place moves passed now.place
   pub before : now.before ≡ old.before ++ passed
 
--- So many were.
+-- So many were, and no moves are found after them.
 pub record GoneOn (old : AbstractState) (made : ℕ) (now : AbstractState) : Type 0 where
   pub moves : List (List (ℕ × ℕ))
   pub gone : Gone old moves now
   pub many : length moves ≡ made
+  pub found : now.found ≡ None
 
 -- Their numbers are appended.
 pub record ToldOn (old : AbstractState) (made : ℕ) (now : AbstractState) (first numbers : List ℕ) : Type 0 where
@@ -86,11 +83,11 @@ pub record ToldOn (old : AbstractState) (made : ℕ) (now : AbstractState) (firs
 pub gone_nowhere : (old : AbstractState) → Gone old [] old
 gone_nowhere old = record { game = refl; origin = refl; passed = []; passes = none_made; before = sym (append-nil old.before) }
 
-abbrev pub gone_none : (old : AbstractState) → GoneOn old 0 old
-gone_none old = record { moves = []; gone = gone_nowhere old; many = refl }
+abbrev pub gone_none : (old : AbstractState) → old.found ≡ None → GoneOn old 0 old
+gone_none old none = record { moves = []; gone = gone_nowhere old; many = refl; found = none }
 
-pub told_none : (old : AbstractState) (numbers : List ℕ) → ToldOn old 0 old numbers numbers
-told_none old numbers = record { on = gone_none old; told = sym (append-nil numbers) }
+pub told_none : (old : AbstractState) (numbers : List ℕ) → old.found ≡ None → ToldOn old 0 old numbers numbers
+told_none old numbers none = record { on = gone_none old none; told = sym (append-nil numbers) }
 
 -- the same where moves were found
 found_there : (old now mid : AbstractState) (count : ℕ) (moves : List (List (ℕ × ℕ))) → Gone old moves now → FindsMoves now count mid → Gone old moves mid
@@ -119,6 +116,7 @@ gone_one old now mid new made index on chooses makes = record {
   moves = on.moves ++ makes.pairs ∷ [];
   gone = one_further old mid new on.moves makes.pairs (chosen_there old now mid index on.moves on.gone chooses) makes.makes;
   many = one_more_made on.moves makes.pairs made on.many;
+  found = ap (λ (s : AbstractState). s.found) makes.makes.is;
 }
 
 numbers_more : (first mid new : List ℕ) (moves : List (List (ℕ × ℕ))) (pairs : List (ℕ × ℕ)) → mid ≡ first ++ numbers_of_moves moves → new ≡ mid ++ numbers_of_move pairs → new ≡ first ++ numbers_of_moves (moves ++ pairs ∷ [])
@@ -143,8 +141,8 @@ as_many game from _ _ _ none_made = refl
 as_many game from _ _ to (one_made {moves} {passed} {middle} {pairs = pairs} passes leads) =
     length-append passed (middle ∷ []) ∙ (ap (λ n. n + 1) (as_many game from moves passed middle passes) ∙ sym (length-append moves (pairs ∷ [])))
 
-plays_so : (old now : AbstractState) (most : ℕ) (moves : List (List (ℕ × ℕ))) → Gone old moves now → length moves ≤ most → (length moves < most → Finished old.game now.place) → PlaysOn old most moves now
-plays_so old now most moves gone few whole = record {
+plays_so : (old now : AbstractState) (most : ℕ) (moves : List (List (ℕ × ℕ))) → Gone old moves now → length moves ≤ most → (length moves < most → Finished old.game now.place) → (length moves < most → now.found ≡ Some []) → (length moves ≡ most → now.found ≡ None) → PlaysOn old most moves now
+plays_so old now most moves gone few whole ended going = record {
   game = gone.game;
   origin = gone.origin;
   sampled = record { plays = all_played old.game old.place moves gone.passed now.place gone.passes; few = few; whole = whole };
@@ -152,6 +150,8 @@ plays_so old now most moves gone few whole = record {
   passes = gone.passes;
   before = gone.before;
   made = ap (λ (ps : List AbstractPlace). length ps) gone.before ∙ (length-append old.before gone.passed ∙ ap (λ n. length old.before + n) (as_many old.game old.place moves gone.passed now.place gone.passes));
+  ended = ended;
+  going = going;
 }
 
 -- the moves so far, where there is no other
@@ -159,9 +159,18 @@ over_there : (old now new : AbstractState) (moves : List (List (ℕ × ℕ))) �
 over_there old now new moves gone finds =
     subst (λ (p : AbstractPlace). Finished old.game p) (sym (ap (λ (s : AbstractState). s.place) finds.is)) (subst (λ (g : AbstractGame). Finished g now.place) gone.game (over_here now new finds))
 
+empty_list : {X : Type 0} (xs : List X) → 0 ≡ length xs → xs ≡ []
+empty_list [] none = refl
+empty_list (x ∷ xs) none = absurd (omega (arith, none))
+
+none_found_there : (now new : AbstractState) → FindsMoves now 0 new → new.found ≡ Some []
+none_found_there now new finds =
+    ap (λ (s : AbstractState). s.found) finds.is ∙ ap (λ (ms : List (List (ℕ × ℕ))). Some ms) (empty_list finds.moves finds.many)
+
 ends_there : (old now new : AbstractState) (most made : ℕ) → (on : GoneOn old made now) → Chooses now None new → made < most → PlaysOn old most on.moves new
 ends_there old now new most made on (none_left finds) few =
     plays_so old new most on.moves (found_there old now new 0 on.moves on.gone finds) (omega (arith, few, on.many)) (λ less. over_there old now new on.moves on.gone finds)
+    (λ less. none_found_there now new finds) (λ all. absurd (omega (arith, few, on.many, all)))
 
 pub ends_so : (old now new : AbstractState) (most made : ℕ) → GoneOn old made now → Chooses now None new → made < most → IsPlayedOn old most new
 ends_so old now new most made on none few = record { moves = on.moves; plays = ends_there old now new most made on none few }
@@ -171,7 +180,7 @@ tells_so old now new most made first numbers so none few = record { moves = so.o
 
 -- as many moves as were wanted
 made_there : (old now : AbstractState) (most made : ℕ) → (on : GoneOn old made now) → made ≡ most → PlaysOn old most on.moves now
-made_there old now most made on same = plays_so old now most on.moves on.gone (omega (arith, on.many, same)) (λ less. absurd (omega (arith, on.many, same, less)))
+made_there old now most made on same = plays_so old now most on.moves on.gone (omega (arith, on.many, same)) (λ less. absurd (omega (arith, on.many, same, less))) (λ less. absurd (omega (arith, on.many, same, less))) (λ all. on.found)
 
 pub all_made : (old now : AbstractState) (most made : ℕ) → GoneOn old made now → made ≡ most → IsPlayedOn old most now
 all_made old now most made on same = record { moves = on.moves; plays = made_there old now most made on same }
@@ -194,7 +203,7 @@ not_made old now mid most made index refusal on few (chosen {count} finds within
 
 -- there was no memory to tell of matches
 pub unplayed_memory : (game : AbstractGame) (from : AbstractPlace) → IsUnplayed game from Memory
-unplayed_memory game from = record { moves = []; few = omega arith; to = from; plays = no_move; unmoved = no_room }
+unplayed_memory game from = record { moves = []; few = omega arith; to = from; plays = no_move; unmoved = unlisted no_memory }
 
 -- a copy on which no move is made
 pub copy_stuck : (state copy : AbstractState) (most : ℕ) (refusal : QuestionError) → copy ≡ copy_of state → IsNotPlayedOn copy.game copy.place most refusal → IsNotPlayedOn state.game state.place most refusal

@@ -2,12 +2,9 @@
 use Rattle.std.proofs.Common.{◌≡◌, ℕ, ◌<◌, ◌≤◌, ◌^◌, List, length, Bool, true, false, refl, sym, subst, arith}
 use Rattle.std.specs.Prelude.{Option, Some, IfSome, slice_get}
 use Rattle.rbg_base.proofs.Common.{get_or_from_slice_get, slice_get_within}
-use Rattle.rbg_questions.specs.declared.question_error.QuestionError.{QuestionError}
 use Rattle.rbg_rules.specs.Meaning.{AbstractGame, AbstractPlace, IsLegal}
 use Rattle.rbg_moves.specs.Listing.{IsGathered}
-use Rattle.rbg_questions.specs.Chance.{IsUnmoved}
-use Rattle.rbg_questions.specs.Counting.{AreLegalMoves}
-use Rattle.rbg_questions.specs.Places.{IsUnfollowed, IsUnmade}
+use Rattle.rbg_questions.specs.Places.{AreLegalMoves}
 use Rattle.rbg_c.specs.States.{AbstractState, FindsMoves, IsState}
 
 -- no list is as long as the limit
@@ -38,14 +35,3 @@ found_state state game max moves cut len is same_game gathered same small large 
 pub finds_moves : (state : AbstractState) (game : AbstractGame) (max : ℕ) (moves : List (List (ℕ × ℕ))) (cut : Bool) (len : ℕ) → IsState state → game ≡ state.game → IsGathered game state.place max moves cut → len ≡ length moves → len < 2 ^ 63 → 2 ^ 63 ≤ max → FindsMoves state len (record { game = state.game; origin = state.origin; before = state.before; place = state.place; found = Some moves })
 finds_moves state game max moves cut len is same_game gathered same small large =
     record { moves = moves; are = moves_there state game max moves cut len same_game gathered same small large; many = same; is = refl }
-
--- why a move isn't made, in a game that is the state's
-pub unmade_in : (state : AbstractState) (game : AbstractGame) (pairs : List (ℕ × ℕ)) (refusal : QuestionError) → IsState state → game ≡ state.game → IsUnmade game state.place pairs refusal → IsUnmade state.game state.place pairs refusal
-unmade_in state game pairs refusal is same why = subst (λ (g : AbstractGame). IsUnmade g state.place pairs refusal) same why
-
-pub unmoved_in : (state : AbstractState) (game : AbstractGame) (refusal : QuestionError) → IsState state → game ≡ state.game → IsUnmoved game state.place refusal → IsUnmoved state.game state.place refusal
-unmoved_in state game refusal is same why = subst (λ (g : AbstractGame). IsUnmoved g state.place refusal) same why
-
--- and why one that was heard isn't followed
-pub unfollowed_in : (state : AbstractState) (game : AbstractGame) (pairs : List (ℕ × ℕ)) (refusal : QuestionError) → IsState state → game ≡ state.game → IsUnfollowed game state.place pairs refusal → IsUnfollowed state.game state.place pairs refusal
-unfollowed_in state game pairs refusal is same why = subst (λ (g : AbstractGame). IsUnfollowed g state.place pairs refusal) same why

@@ -3,7 +3,8 @@ use Rattle.rbg_base.proofs.Common.{◌≡◌, ℕ, List, [], ◌∷◌, ◌++◌
 use Rattle.std.specs.Prelude.{None}
 use Rattle.rbg_rules.specs.Meaning.{AbstractGame, AbstractPlace, Legal, IsPlaceOf}
 use Rattle.rbg_moves.specs.Settling.{KeeperMoves, none, more, Settles}
-use Rattle.rbg_questions.specs.Sessions.{AreHeard, no_move, one_more, HasLedTo, at_start, at_heard, by_move, Leads, beginning_of}
+use Rattle.rbg_questions.specs.Sessions.{AreHeard, no_move, one_more, HasLedTo, at_start, at_heard, by_move, Leads}
+use Rattle.rbg_moves.specs.Starting.{start_place}
 use Rattle.rbg_questions.specs.Places.{AreReached}
 use Rattle.rbg_c.specs.States.{AbstractState, Hears, IsState, beginning_at}
 
@@ -32,11 +33,11 @@ alike game same origin begin items others place there is_game is_origin is_items
     (subst (λ (p : AbstractPlace). IsState (record { game = game; origin = origin; before = items; place = p; found = None })) (sym is_place) state)))
 
 -- the first state
-pub first_state : (game same : AbstractGame) (begin first : AbstractPlace) (items : List AbstractPlace) (place : AbstractPlace) → same ≡ game → begin ≡ first → first ≡ beginning_of game → IsPlaceOf game first → items ≡ [] → Settles game (beginning_of game) place → IsPlaceOf game place → IsState (record { game = same; origin = begin; before = items; place = place; found = None })
+pub first_state : (game same : AbstractGame) (begin first : AbstractPlace) (items : List AbstractPlace) (place : AbstractPlace) → same ≡ game → begin ≡ first → first ≡ start_place game → IsPlaceOf game first → items ≡ [] → Settles game (start_place game) place → IsPlaceOf game place → IsState (record { game = same; origin = begin; before = items; place = place; found = None })
 first_state game same begin first items place is_game is_first start first_fits is_items settles fits =
-    alike game same (beginning_of game) begin [] items place place is_game (is_first ∙ start) is_items refl (lone_at game (beginning_of game) place (subst (IsPlaceOf game) start first_fits) fits (at_start settles))
+    alike game same (start_place game) begin [] items place place is_game (is_first ∙ start) is_items refl (lone_at game (start_place game) place (subst (IsPlaceOf game) start first_fits) fits (at_start settles))
 
-pub first_is : (game same : AbstractGame) (begin first : AbstractPlace) (items : List AbstractPlace) (place : AbstractPlace) → same ≡ game → begin ≡ first → first ≡ beginning_of game → items ≡ [] → record { game = same; origin = begin; before = items; place = place; found = None } ≡ beginning_at game (beginning_of game) place
+pub first_is : (game same : AbstractGame) (begin first : AbstractPlace) (items : List AbstractPlace) (place : AbstractPlace) → same ≡ game → begin ≡ first → first ≡ start_place game → items ≡ [] → record { game = same; origin = begin; before = items; place = place; found = None } ≡ beginning_at game (start_place game) place
 first_is game same begin first items place is_game is_first start is_items =
     λ i. record { game = is_game i; origin = (is_first ∙ start) i; before = is_items i; place = place; found = None }
 
@@ -110,12 +111,12 @@ undone_state state front place now is same same_place =
     (record { reached = record { start = is.reached.start; earlier = places.0; here = places.1; led = led_last state.game state.origin state.before state.place is.reached.led front place same }; found = tt })
 
 -- the state where the rules begin
-pub begun_state : (game same : AbstractGame) (begin first : AbstractPlace) (items : List AbstractPlace) (place : AbstractPlace) → same ≡ game → begin ≡ first → first ≡ beginning_of game → items ≡ [] → place ≡ beginning_of game → IsPlaceOf game place → IsState (record { game = same; origin = begin; before = items; place = place; found = None })
+pub begun_state : (game same : AbstractGame) (begin first : AbstractPlace) (items : List AbstractPlace) (place : AbstractPlace) → same ≡ game → begin ≡ first → first ≡ start_place game → items ≡ [] → place ≡ start_place game → IsPlaceOf game place → IsState (record { game = same; origin = begin; before = items; place = place; found = None })
 begun_state game same begin first items place is_game is_first first_start is_items start fits =
-    alike game same (beginning_of game) begin [] items place place is_game (is_first ∙ first_start) is_items refl
-    (lone_at game (beginning_of game) place (subst (IsPlaceOf game) start fits) fits (at_heard (subst (λ (p : AbstractPlace). AreHeard game (beginning_of game) p) (sym start) no_move)))
+    alike game same (start_place game) begin [] items place place is_game (is_first ∙ first_start) is_items refl
+    (lone_at game (start_place game) place (subst (IsPlaceOf game) start fits) fits (at_heard (subst (λ (p : AbstractPlace). AreHeard game (start_place game) p) (sym start) no_move)))
 
-pub begun_is : (game same : AbstractGame) (begin first : AbstractPlace) (items : List AbstractPlace) (place : AbstractPlace) → same ≡ game → begin ≡ first → first ≡ beginning_of game → items ≡ [] → place ≡ beginning_of game → record { game = same; origin = begin; before = items; place = place; found = None } ≡ beginning_at game (beginning_of game) (beginning_of game)
+pub begun_is : (game same : AbstractGame) (begin first : AbstractPlace) (items : List AbstractPlace) (place : AbstractPlace) → same ≡ game → begin ≡ first → first ≡ start_place game → items ≡ [] → place ≡ start_place game → record { game = same; origin = begin; before = items; place = place; found = None } ≡ beginning_at game (start_place game) (start_place game)
 begun_is game same begin first items place is_game is_first first_start is_items start =
     λ i. record { game = is_game i; origin = (is_first ∙ first_start) i; before = is_items i; place = start i; found = None }
 

@@ -13,3 +13,4 @@ pub mod Listing
 pub mod Names
 pub mod Shapes
 pub mod Playouts
+pub mod internal

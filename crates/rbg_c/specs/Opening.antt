@@ -5,7 +5,7 @@ use Rattle.rbg_moves.specs.Settling.{Settles}
 use Rattle.rbg_game.specs.Loading.{Loads, IsMemory, IsRefused}
 use Rattle.rbg_game.specs.declared.error.LoadError.{LoadError}
 use Rattle.rbg_questions.specs.Packing.{packed_of}
-use Rattle.rbg_questions.specs.Sessions.{beginning_of}
+use Rattle.rbg_moves.specs.Starting.{start_place}
 use Rattle.rbg_c.specs.States.{AbstractState, Unpacks, beginning_at, copy_of}
 use Rattle.rbg_c.specs.Results.{ok, empty, memory, no_place, layer_of}
 
@@ -30,8 +30,8 @@ pub data Keeps (state : AbstractState) (before after : Option AbstractState) (re
 pub data Opens (text : List ℕ) (before after : Option AbstractState) (result : ℕ) : Type 0 where
   opened : {game : AbstractGame} {state : AbstractState} →
       Loads text game →
-      state ≡ beginning_at game (beginning_of game) state.place →
-      Settles game (beginning_of game) state.place →
+      state ≡ beginning_at game (start_place game) state.place →
+      Settles game (start_place game) state.place →
       Keeps state before after result →
       Opens text before after result
   no_game : Checks text result → result ≢ ok → after ≡ before → Opens text before after result
@@ -41,7 +41,7 @@ pub data Opens (text : List ℕ) (before after : Option AbstractState) (result :
 --   begun: the state there is kept. The keeper's first moves aren't made.
 --   no_beginning: the text is no game's, or memory ran out.
 pub data Begins (text : List ℕ) (before after : Option AbstractState) (result : ℕ) : Type 0 where
-  begun : {game : AbstractGame} → Loads text game → Keeps (beginning_at game (beginning_of game) (beginning_of game)) before after result → Begins text before after result
+  begun : {game : AbstractGame} → Loads text game → Keeps (beginning_at game (start_place game) (start_place game)) before after result → Begins text before after result
   no_beginning : Checks text result → result ≢ ok → after ≡ before → Begins text before after result
 
 -- What becomes of a handle that gets a copy of what another one holds.

@@ -8,7 +8,7 @@ use Rattle.rbg_questions.specs.Chance.{AreTallied, Counted, IsUnmoved, IsUnplaye
 use Rattle.rbg_questions.specs.Limits.{IsCount}
 use Rattle.rbg_questions.specs.Searching.{IsSampled}
 use Rattle.rbg_questions.specs.Sessions.{Leads}
-use Rattle.rbg_c.specs.States.{AbstractState, FindsMoves, copy_of}
+use Rattle.rbg_c.specs.States.{AbstractState, copy_of}
 use Rattle.rbg_c.specs.Opening.{Keeps}
 use Rattle.rbg_c.specs.Results.{Refuses, empty, memory, ok, range, small}
 use Rattle.rbg_c.specs.Filling.{Fills}
@@ -29,10 +29,10 @@ pub record ArePlayed (game : AbstractGame) (place : AbstractPlace) (count : ℕ)
   pub told : rows ≡ flat_map row_of counted
 
 -- A call that plays so many matches by chance, and puts their rows into a buffer.
---   no_count: they are none, or more than 1,000,000.
---   nothing: there is no state.
---   played: they were played, and the rows are put, or they are too many.
---   failed: a match wasn't played to its end.
+--   no_count: the matches are none, or more than 1,000,000.
+--   nothing: the handle holds no state.
+--   played: the matches are played. Their rows are put into the buffer, if it has room for them.
+--   failed: one of the matches isn't played to its end.
 pub data PlaysOut (count : ℕ) (before after : Option AbstractState) (old new : List ℕ) (needed result : ℕ) : Type 0 where
   no_count : ¬ IsCount count → after ≡ before → new ≡ old → result ≡ range → PlaysOut count before after old new needed result
   nothing : before ≡ None → after ≡ None → new ≡ old → result ≡ empty → PlaysOut count before after old new needed result
@@ -49,15 +49,8 @@ pub data PlaysOut (count : ℕ) (before after : Option AbstractState) (old new :
       Refuses (IsUnplayed state.game state.place) result →
       PlaysOut count before after old new needed result
 
--- One of the legal moves is chosen, by its index among those that were found, or there is none.
---   chosen: this one.
---   none_left: none was found.
-pub data Chooses (old : AbstractState) : Option ℕ → (new : AbstractState) → Type 0 where
-  chosen : {count index : ℕ} {new : AbstractState} → FindsMoves old count new → index < count → Chooses old (Some index) new
-  none_left : {new : AbstractState} → FindsMoves old 0 new → Chooses old None new
-
--- Moves of the players, each with the keeper's moves after it, lead from one place to the other, and each was made at one
--- of these places, in the same order.
+-- Moves of the players lead from one place to the other, each with the keeper's moves after it. The places that they passed
+-- are those at which they were made, in the same order.
 pub data Passes (game : AbstractGame) (from : AbstractPlace)
     : (moves : List (List (ℕ × ℕ))) → (passed : List AbstractPlace) → (to : AbstractPlace) → Type 0
   where
@@ -68,7 +61,8 @@ pub data Passes (game : AbstractGame) (from : AbstractPlace)
         Passes game from (moves ++ pairs ∷ []) (passed ++ middle ∷ []) to
 
 -- These moves by chance lead from a state to another: at most `most`, and fewer only where play is finished. They can be
--- undone: the places that they passed stand after those before.
+-- undone: the places that they passed stand after those before. Where they are fewer, the legal moves were found to be none;
+-- where they are `most`, no moves are found yet.
 pub record PlaysOn (old : AbstractState) (most : ℕ) (moves : List (List (ℕ × ℕ))) (new : AbstractState) : Type 0 where
   pub game : new.game ≡ old.game
   pub origin : new.origin ≡ old.origin
@@ -77,21 +71,12 @@ pub record PlaysOn (old : AbstractState) (most : ℕ) (moves : List (List (ℕ �
   pub passes : Passes old.game old.place moves passed new.place
   pub before : new.before ≡ old.before ++ passed
   pub made : length new.before ≡ length old.before + length moves
+  pub ended : length moves < most → new.found ≡ Some []
+  pub going : length moves ≡ most → new.found ≡ None
 
--- Such moves lead there.
-pub record IsPlayedOn (old : AbstractState) (most : ℕ) (new : AbstractState) : Type 0 where
-  pub moves : List (List (ℕ × ℕ))
-  pub plays : PlaysOn old most moves new
-
--- Such moves lead there, and their numbers are appended.
-pub record TellsOn (old : AbstractState) (most : ℕ) (new : AbstractState) (before after : List ℕ) : Type 0 where
-  pub moves : List (List (ℕ × ℕ))
-  pub plays : PlaysOn old most moves new
-  pub told : after ≡ before ++ numbers_of_moves moves
-
--- Why at most so many moves aren't made by chance.
---   stuck: moves, fewer than so many, lead to where no move is made.
---   no_memory: it says nothing of the place.
+-- Why `most` moves by chance aren't made.
+--   stuck: fewer moves lead to a place where the next one isn't made.
+--   no_memory: memory ran out, which says nothing of the place.
 pub data IsNotPlayedOn (game : AbstractGame) (place : AbstractPlace) (most : ℕ) : QuestionError → Type 0 where
   stuck : {moves : List (List (ℕ × ℕ))} {to : AbstractPlace} {refusal : QuestionError} →
       Plays game place moves to →
@@ -100,10 +85,10 @@ pub data IsNotPlayedOn (game : AbstractGame) (place : AbstractPlace) (most : ℕ
       IsNotPlayedOn game place most refusal
   no_memory : IsNotPlayedOn game place most Memory
 
--- What becomes of a handle that gets a copy on which moves are made by chance.
---   holds_nothing: the other one holds nothing, and all is as before.
---   plays_copy: the copy is kept, and it is told how many moves were made.
---   fails: a move wasn't made, and all is as before.
+-- What becomes of a handle that gets a copy of the state of another handle, on which moves are made by chance.
+--   holds_nothing: the other handle holds no state. This one is as before.
+--   plays_copy: the moves are made. The copy is kept, and `made` says how many moves they are.
+--   fails: one of the moves isn't made. The handle is as before.
 pub data PlaysCopy (from : Option AbstractState) (most : ℕ) (before after : Option AbstractState) (made result : ℕ) : Type 0 where
   holds_nothing : from ≡ None → after ≡ before → result ≡ empty → PlaysCopy from most before after made result
   plays_copy : {state copy : AbstractState} {moves : List (List (ℕ × ℕ))} →
@@ -119,9 +104,9 @@ pub data PlaysCopy (from : Option AbstractState) (most : ℕ) (before after : Op
       PlaysCopy from most before after made result
 
 -- A state is kept in a handle, and numbers are put into a buffer.
---   handed: both.
---   no_room_for: they are more than it has room for, and all is as it was.
---   unkept: memory ran out, and all is as it was.
+--   handed: both is done.
+--   no_room_for: the buffer has too little room. It and the handle are as before.
+--   unkept: memory ran out. The buffer and the handle are as before.
 pub data HandsOut (state : AbstractState) (numbers : List ℕ) (before after : Option AbstractState) (old new : List ℕ) (needed result : ℕ)
     : Type 0
   where
@@ -140,10 +125,10 @@ pub data HandsOut (state : AbstractState) (numbers : List ℕ) (before after : O
         HandsOut state numbers before after old new needed result
     unkept : after ≡ before → new ≡ old → result ≡ memory → HandsOut state numbers before after old new needed result
 
--- The same of a copy on which moves are made by chance, with their numbers.
---   from_nothing: the other handle holds nothing, and all is as it was.
---   sampled: it holds this state, and these moves were made.
---   stopped: a move wasn't made, and all is as it was.
+-- What becomes of a handle that gets such a copy, and of a buffer that gets the numbers of the moves.
+--   from_nothing: the other handle holds no state. The handle and the buffer are as before.
+--   sampled: the other handle holds this state, and these moves are made on the copy. Both are handed out.
+--   stopped: one of the moves isn't made. The handle and the buffer are as before.
 pub data Samples (from : Option AbstractState) (most : ℕ) (before after : Option AbstractState) (old new : List ℕ) (needed result : ℕ) : Type 0 where
   from_nothing : from ≡ None → after ≡ before → new ≡ old → result ≡ empty → Samples from most before after old new needed result
   sampled : {state copy : AbstractState} {moves : List (List (ℕ × ℕ))} →

@@ -1,9 +1,8 @@
 -- A state of a game: where play stands, and the places before.
 use Rattle.std.specs.Prelude.{◌≡◌, ℕ, List, [], ◌∷◌, ◌++◌, length, slice_get, IfSome, Option, Some, None}
 use Rattle.rbg_rules.specs.Meaning.{AbstractGame, AbstractPlace, IsPlaceOf, Legal}
-use Rattle.rbg_questions.specs.Counting.{AreLegalMoves}
 use Rattle.rbg_questions.specs.Packing.{packed_of}
-use Rattle.rbg_questions.specs.Places.{AreReached}
+use Rattle.rbg_questions.specs.Places.{AreLegalMoves, AreReached}
 use Rattle.rbg_questions.specs.Sessions.{Leads}
 
 -- A state: its game, the place from which its moves count, the places before, from each of which a move of a player was

@@ -1,11 +1,12 @@
 //! Moves and matches by chance from a state.
-ghost use Rattle.std.specs.Prelude.{◌≡◌, ◌<◌, ◌++◌, ℕ, List, IfErr, IfOk, OnErr, OnOk, map};
+ghost use Rattle.std.specs.Prelude.{◌≡◌, ◌<◌, ◌++◌, ℕ, List, None, IfErr, IfOk, OnErr, OnOk, map};
 ghost use Rattle.std.specs.List.{flat_map};
 ghost use Rattle.rbg_questions.specs.Chance.{IsUnmoved, IsUnplayed, counted_by};
 ghost use Rattle.rbg_questions.specs.Limits.{IsCount};
 ghost use Rattle.rbg_c.specs.Listing.{numbers_of_move};
-ghost use Rattle.rbg_c.specs.Playouts.{ArePlayed, Chooses, IsNotPlayedOn, IsPlayedOn, TellsOn, row_of};
+ghost use Rattle.rbg_c.specs.Playouts.{ArePlayed, IsNotPlayedOn, row_of};
 ghost use Rattle.rbg_c.specs.States.{IsFoundAt, copy_of};
+ghost use Rattle.rbg_c.specs.internal.ByChance.{Chooses, IsPlayedOn, TellsOn};
 
 use crate::listing::push_move;
 use crate::state::State;
@@ -68,7 +69,11 @@ pub(crate) fn played_on(state: &State, draw: Draw) -> Result<State, QuestionErro
     Ok(copy)
 }
 
-/// The same, with the same moves from the same seed. Their numbers are appended, as `rbg_moves` has them.
+/// As `played_on`. The numbers of the moves are appended, as `rbg_moves` has them.
+///
+/// One seed gives both the same moves. This isn't proved, since no contract says in which order the moves are found that
+/// are chosen by their index, nor which one the keeper makes of several. It is so since both choose by `choose_one`, each
+/// time from what the same search finds. clients/c/trial.c tries it: how many moves there are, and where they lead.
 pub(crate) fn sampled_on(
     state: &State,
     draw: Draw,
@@ -85,6 +90,7 @@ pub(crate) fn sampled_on(
 
 /// Makes moves by chance, at most so many, until play is finished.
 fn play_on(state: &mut State, draw: Draw) -> Result<(), QuestionError>
+    requires { state.old.found ≡ None }
     ensures plays { OnOk result (IsPlayedOn state.old draw.count state.new) }
     ensures stuck { IfErr result (IsNotPlayedOn state.old.game state.old.place draw.count) }
 {
@@ -100,6 +106,7 @@ fn play_on(state: &mut State, draw: Draw) -> Result<(), QuestionError>
 
 /// Makes moves by chance, at most so many, until play is finished, and appends their numbers.
 fn sample_on(state: &mut State, draw: Draw, numbers: &mut Vec<u32>) -> Result<(), QuestionError>
+    requires { state.old.found ≡ None }
     ensures plays { OnOk result
         (TellsOn state.old draw.count state.new numbers.old.items numbers.new.items) }
     ensures stuck { IfErr result (IsNotPlayedOn state.old.game state.old.place draw.count) }
@@ -115,7 +122,8 @@ fn sample_on(state: &mut State, draw: Draw, numbers: &mut Vec<u32>) -> Result<()
     Ok(())
 }
 
-/// Finds the legal moves, and chooses one of them by chance. None where there is no legal one.
+/// Finds the legal moves, and chooses one of them by chance: its index is the remainder of the next number of 64 bits by
+/// how many they are. None where there is no legal one, and then no number is taken.
 fn choose_one(state: &mut State, chance: &mut Pcg32) -> Result<Option<usize>, QuestionError>
     ensures chosen { IfOk result (λ index. Chooses state.old index state.new) }
     ensures stuck { IfErr result (IsUnmoved state.old.game state.old.place) }

@@ -5,18 +5,18 @@ ghost use Rattle.rbg_rules.specs.Meaning.{AbstractPlace, IsGame, IsPlaceOf, most
 ghost use Rattle.rbg_moves.specs.Settling.{IsEndless, MeetsHeavy, Settles};
 ghost use Rattle.rbg_questions.specs.declared.question_error.QuestionError.TheVariants.{Keeper, Over};
 ghost use Rattle.rbg_questions.specs.Chance.{AreTallied, IsUnplayed, counted_by};
-ghost use Rattle.rbg_questions.specs.Counting.{AreLegalMoves};
 ghost use Rattle.rbg_questions.specs.Keys.{key_of};
 ghost use Rattle.rbg_questions.specs.Limits.{IsCount};
 ghost use Rattle.rbg_questions.specs.Packing.{packed_of};
-ghost use Rattle.rbg_questions.specs.Places.{IsUnfollowed, IsUnlisted, IsUnmade};
-ghost use Rattle.rbg_questions.specs.Sessions.{HasLedTo, beginning_of};
+ghost use Rattle.rbg_questions.specs.Places.{AreLegalMoves, IsUnfollowed, IsUnlisted, IsUnmade};
+ghost use Rattle.rbg_questions.specs.Sessions.{HasLedTo};
+ghost use Rattle.rbg_moves.specs.Starting.{start_place};
 ghost use Rattle.rbg_c.specs.States.{FindsMoves, Hears, Makes, MakesFound, Undoes, Unpacks, beginning_at, copy_of};
 ghost use Rattle.rbg_c.specs.Stepping.{IsUnmadeAt};
 
 use arrayvec::ArrayVec;
 use rbg_base::{Memory, Move, MoveList, Piece, Player, Variable};
-use rbg_moves::{Place, PlayedGame, Workspace};
+use rbg_moves::{GamePlace, Place, PlayedGame, Workspace};
 use rbg_questions::{
     Draw, EndingTally, QuestionError, first_place, follow, key_of, lead, moves_at, pack,
     play_matches, step, unpack,
@@ -104,8 +104,8 @@ impl State {
     /// The state to which the keeper's first moves lead.
     pub fn open(alloc: Global, game: Game) -> Result<State, QuestionError>
         ensures game { IfOk result (λ state.
-            state ≡ beginning_at game (beginning_of game) state.place) }
-        ensures place { IfOk result (λ state. Settles game (beginning_of game) state.place) }
+            state ≡ beginning_at game (start_place game) state.place) }
+        ensures place { IfOk result (λ state. Settles game (start_place game) state.place) }
     {
         let game = PlayedGame::new(alloc, game)?;
         let mut workspace = Workspace::new(alloc);
@@ -126,7 +126,7 @@ impl State {
     /// The state where the rules begin: the keeper's first moves aren't made.
     pub fn begin(alloc: Global, game: Game) -> Result<State, Memory>
         ensures { IfOk result (λ state.
-            state ≡ beginning_at game (beginning_of game) (beginning_of game)) }
+            state ≡ beginning_at game (start_place game) (start_place game)) }
     {
         let game = PlayedGame::new(alloc, game)?;
         let place = game.start()?;
@@ -195,7 +195,14 @@ impl State {
     pub fn pack(&self) -> Result<Vec<u8>, Memory>
         ensures { IfOk result (λ bytes. bytes.items ≡ packed_of self.now.place) }
     {
-        pack(self.alloc, self.game(), &self.place)
+        pack(self.alloc, &self.here())
+    }
+
+    /// The place with its game.
+    fn here(&self) -> GamePlace<'_>
+        ensures { result ≡ record { game = self.now.game; place = self.now.place } }
+    {
+        GamePlace::new(self.game.deref(), &self.place)
     }
 
     /// The game.
@@ -257,7 +264,7 @@ impl State {
     pub fn key(&self) -> u64
         ensures { result ≡ key_of self.now.place }
     {
-        key_of(self.game(), &self.place)
+        key_of(&self.place)
     }
 
     /// Finds the legal moves, and tells how many they are. Play is finished where there is none.
@@ -269,12 +276,8 @@ impl State {
         if let Some(moves) = &self.found {
             return Ok(moves.len());
         }
-        let gathered = moves_at(
-            self.game.deref(),
-            &self.place,
-            usize::MAX,
-            &mut self.workspace,
-        )?;
+        let here = GamePlace::new(self.game.deref(), &self.place);
+        let gathered = moves_at(&here, usize::MAX, &mut self.workspace)?;
         let count = gathered.moves.len();
         self.found = Some(gathered.moves);
         Ok(count)
@@ -304,12 +307,8 @@ impl State {
         if moves.len() <= index {
             return Err(QuestionError::Illegal);
         }
-        let to = step(
-            self.game.deref(),
-            &self.place,
-            moves.get(index),
-            &mut self.workspace,
-        )?;
+        let here = GamePlace::new(self.game.deref(), &self.place);
+        let to = step(&here, moves.get(index), &mut self.workspace)?;
         self.before.reserve(1)?;
         self.before.push_reserved(replace(&mut self.place, to));
         hand_on(&mut self.found, &mut self.workspace);
@@ -323,7 +322,8 @@ impl State {
         ensures refused { IfErr result (IsUnmade self.old.game self.old.place pairs.now) }
         ensures kept { OnErr result (self.new ≡ self.old) }
     {
-        let to = lead(self.game.deref(), &self.place, pairs, &mut self.workspace)?;
+        let here = GamePlace::new(self.game.deref(), &self.place);
+        let to = lead(&here, pairs, &mut self.workspace)?;
         self.before.reserve(1)?;
         self.before.push_reserved(replace(&mut self.place, to));
         hand_on(&mut self.found, &mut self.workspace);
@@ -338,7 +338,8 @@ impl State {
         ensures refused { IfErr result (IsUnfollowed self.old.game self.old.place pairs.now) }
         ensures kept { OnErr result (self.new ≡ self.old) }
     {
-        let to = follow(self.game.deref(), &self.place, pairs, &mut self.workspace)?;
+        let here = GamePlace::new(self.game.deref(), &self.place);
+        let to = follow(&here, pairs, &mut self.workspace)?;
         self.before.clear();
         self.workspace.keep(replace(&mut self.place, to));
         hand_on(&mut self.found, &mut self.workspace);
@@ -371,12 +372,7 @@ impl State {
         ensures unplayed { IfErr result (IsUnplayed self.old.game self.old.place) }
         ensures kept { self.new ≡ self.old }
     {
-        play_matches(
-            self.alloc,
-            self.game.deref(),
-            &self.place,
-            draw,
-            &mut self.workspace,
-        )
+        let here = GamePlace::new(self.game.deref(), &self.place);
+        play_matches(self.alloc, &here, draw, &mut self.workspace)
     }
 }

@@ -3,7 +3,8 @@ use Rattle.rbg_base.proofs.Common.{◌≡◌, ℕ, suc, ◌+◌, ◌-◌, ◌<�
 use Rattle.std.proofs.lemmas.List.{take_more, take_all}
 use Rattle.rbg_rules.specs.Meaning.{AbstractGame, AbstractPlace, IsLegal}
 use Rattle.rbg_moves.specs.Settling.{Settles}
-use Rattle.rbg_questions.specs.Counting.{AreCounted, AreCountedAfter, AreLegalMoves, Sums}
+use Rattle.rbg_questions.specs.Counting.{AreCounted, AreCountedAfter, Sums}
+use Rattle.rbg_questions.specs.Places.{AreLegalMoves}
 use Rattle.rbg_questions.specs.Counting.Sums.{none, more}
 use Rattle.rbg_questions.specs.declared.extent.Extent.{Extent}
 use Rattle.rbg_questions.specs.declared.extent.Extent.TheVariants.{Moves}

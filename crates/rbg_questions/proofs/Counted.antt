@@ -1,33 +1,13 @@
--- What was gathered of the legal moves of a place, and why it wasn't.
-use Rattle.std.proofs.Common.{◌≡◌, ◌≢◌, ℕ, ◌<◌, ◌≤◌, ◌^◌, ◌⊎◌, inl, inr, List, [], ◌∷◌, length, Bool, true, false, Option, Result, Err, refl, sym, ◌∙◌, subst, arith, All, Contains, take}
+-- What was gathered of the legal moves of a place.
+use Rattle.std.proofs.Common.{◌≡◌, ◌≢◌, ℕ, ◌<◌, ◌≤◌, ◌^◌, List, [], ◌∷◌, length, Bool, true, false, refl, sym, ◌∙◌, subst, arith, All, Contains, take}
 use Rattle.rbg_base.proofs.Common.{All-head}
 use Rattle.std.proofs.lemmas.List.Sorted.{length_permutation}
-use Rattle.rbg_rules.specs.Meaning.{AbstractGame, AbstractPlace, Finished, IsLegal, IsTooHard, list_moves}
-use Rattle.rbg_search.specs.declared.over.Over.{Over}
-use Rattle.rbg_search.specs.declared.over.Over.TheVariants.{Deep, Wide, Memory}
+use Rattle.rbg_rules.specs.Meaning.{AbstractGame, AbstractPlace, Finished, IsLegal}
 use Rattle.rbg_moves.specs.Listing.{IsGathered, IsListed}
 use Rattle.rbg_moves.proofs.Outcome.{listed}
-use Rattle.rbg_questions.specs.declared.question_error.QuestionError.{QuestionError}
-use Rattle.rbg_questions.specs.declared.question.Question.TheVariants.{Moves, State}
 use Rattle.rbg_questions.specs.Answers.{to_move, finished}
-use Rattle.rbg_questions.specs.Answering.{HasMoves, StandsAt, IsRefused, goes_on, is_over, heavy_to_list, heavy_to_count, no_memory}
-use Rattle.rbg_questions.specs.Sessions.{AbstractSession}
-use Rattle.rbg_questions.specs.Places.{IsUnlisted, too_hard, no_room}
+use Rattle.rbg_questions.specs.Answering.{HasMoves, StandsAt, goes_on, is_over}
 use Rattle.rbg_questions.specs.internal.Ordering.{IsInOrder}
-use Rattle.rbg_questions.specs.internal.Refusing.{refusal_of_over}
-
-pub gather_unlisted : (T : Type 0) (game : AbstractGame) (here place : AbstractPlace) (over : Over) → here ≡ place → (◌≡◌ {A = Result T Over} (Err over) (Err Deep) ⊎ ◌≡◌ {A = Result T Over} (Err over) (Err Wide) → IsTooHard game list_moves here) → IsUnlisted game place (refusal_of_over over)
-gather_unlisted T game here place Deep same hard = too_hard (subst (λ (p : AbstractPlace). IsTooHard game list_moves p) same (hard (inl refl)))
-gather_unlisted T game here place Wide same hard = too_hard (subst (λ (p : AbstractPlace). IsTooHard game list_moves p) same (hard (inr refl)))
-gather_unlisted T game here place Memory same hard = no_room
-
-pub moves_refused : (session : AbstractSession) (max : Option ℕ) (refusal : QuestionError) → IsUnlisted session.game session.place refusal → IsRefused session (Moves max) refusal
-moves_refused session max _ (too_hard hard) = heavy_to_list hard
-moves_refused session max _ no_room = no_memory
-
-pub state_refused : (session : AbstractSession) (refusal : QuestionError) → IsUnlisted session.game session.place refusal → IsRefused session State refusal
-state_refused session _ (too_hard hard) = heavy_to_count hard
-state_refused session _ no_room = no_memory
 
 -- what was gathered, in order
 pub listed_in_order : (game : AbstractGame) (place : AbstractPlace) (max : ℕ) (moves ordered : List (List (ℕ × ℕ))) (cut : Bool) → IsGathered game place max moves cut → IsInOrder moves ordered → IsListed game place max ordered cut

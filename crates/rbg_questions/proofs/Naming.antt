@@ -11,8 +11,3 @@ names_more old mid new names index name so_far there written =
     let told : names_text (take (index + 1) names) ≡ names_text (take index names) ++ (codes " " ++ name) =
     ap names_text longer ∙ (flat_map-append (λ n. codes " " ++ n) (take index names) (name ∷ []) ∙ ap (λ t. names_text (take index names) ++ t) (append-nil (codes " " ++ name))) in
     written ∙ (ap (λ m. m ++ (codes " " ++ name)) so_far ∙ (append_assoc old (names_text (take index names)) (codes " " ++ name) ∙ ap (λ t. old ++ t) (sym told)))
-
--- the items below the next index are those below this one and its own
-pub take_one : (xs : List ℕ) (i x : ℕ) → slice_get xs i ≡ Some x → take (i + 1) xs ≡ take i xs ++ x ∷ []
-take_one xs i x e =
-    take_more xs i 0 (slice_get_within xs i x e) ∙ ap (λ y. take i xs ++ y ∷ []) (get_or_from_slice_get xs i x 0 e)

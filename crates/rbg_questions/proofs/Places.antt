@@ -4,7 +4,8 @@ use Rattle.std.proofs.lemmas.List.{take-append-drop, length-drop}
 use Rattle.rbg_base.proofs.CallerLemmas.{slice_get-append_right}
 use Rattle.rbg_rules.specs.Meaning.{AbstractGame, AbstractPlace, Legal, Finished, IsPlaceOf}
 use Rattle.rbg_moves.specs.Settling.{Settles}
-use Rattle.rbg_questions.specs.Sessions.{AreHeard, no_move, one_more, HasLedTo, at_start, at_heard, by_move, Leads, beginning_of, AbstractSession}
+use Rattle.rbg_questions.specs.Sessions.{AreHeard, no_move, one_more, HasLedTo, at_start, at_heard, by_move, Leads, AbstractSession}
+use Rattle.rbg_moves.specs.Starting.{start_place}
 use Rattle.rbg_questions.specs.Answering.{GoesBack}
 use Rattle.rbg_questions.specs.Places.{AreReached}
 use Rattle.rbg_questions.specs.internal.Places.{IsHeardPlace}
@@ -88,7 +89,7 @@ place_at all index found before place later within there same many =
     cc
 
 -- the first place
-pub reached_first : (game : AbstractGame) (first place : AbstractPlace) → first ≡ beginning_of game → IsPlaceOf game first → Settles game first place → IsPlaceOf game place → AreReached game (beginning_of game) [] place
+pub reached_first : (game : AbstractGame) (first place : AbstractPlace) → first ≡ start_place game → IsPlaceOf game first → Settles game first place → IsPlaceOf game place → AreReached game (start_place game) [] place
 reached_first game first place start first_fits settles fits = record {
   start = subst (IsPlaceOf game) start first_fits;
   earlier = All-nil (IsPlaceOf game);
@@ -97,9 +98,9 @@ reached_first game first place start first_fits settles fits = record {
 }
 
 -- where they count from there
-pub reached_from : (game : AbstractGame) (origin : AbstractPlace) (items before : List AbstractPlace) (place : AbstractPlace) → origin ≡ beginning_of game → items ≡ before → AreReached game (beginning_of game) before place → AreReached game origin items place
+pub reached_from : (game : AbstractGame) (origin : AbstractPlace) (items before : List AbstractPlace) (place : AbstractPlace) → origin ≡ start_place game → items ≡ before → AreReached game (start_place game) before place → AreReached game origin items place
 reached_from game origin items before place start same reached =
-    subst (λ (o : AbstractPlace). AreReached game o items place) (sym start) (subst (λ ps. AreReached game (beginning_of game) ps place) (sym same) reached)
+    subst (λ (o : AbstractPlace). AreReached game o items place) (sym start) (subst (λ ps. AreReached game (start_place game) ps place) (sym same) reached)
 
 -- the session that goes back to a place
 pub goes_back_to : (session : AbstractSession) (index : ℕ) (front : List AbstractPlace) (place : AbstractPlace) → index < length session.before → session.before ≡ front ++ place ∷ drop (index + 1) session.before → GoesBack session (length session.before - index) (record { game = session.game; origin = session.origin; heard = session.heard; before = front; place = place })
@@ -120,7 +121,7 @@ reached_made game origin before place to pairs items kept value now reached lead
     (subst (λ ps. AreReached game origin ps to) (sym all) (reached_next game origin before place to pairs reached leads fits))
 
 -- where the rules begin, no move was heard
-pub heard_first : (game : AbstractGame) (origin first : AbstractPlace) → origin ≡ beginning_of game → first ≡ beginning_of game → IsPlaceOf game first → IsHeardPlace game origin first
+pub heard_first : (game : AbstractGame) (origin first : AbstractPlace) → origin ≡ start_place game → first ≡ start_place game → IsPlaceOf game first → IsHeardPlace game origin first
 heard_first game origin first begin start fits = record { fits = fits; heard = subst (λ (p : AbstractPlace). AreHeard game origin p) (begin ∙ sym start) no_move }
 
 -- the place to which one more move leads that was heard

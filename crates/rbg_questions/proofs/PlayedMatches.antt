@@ -1,28 +1,13 @@
 -- Matches that are played by chance, one move and one match after the other.
-use Rattle.rbg_base.proofs.Common.{◌≡◌, ℕ, ◌+◌, ◌*◌, ◌<◌, ◌≤◌, ◌⊎◌, List, [], ◌∷◌, ◌++◌, length, take, slice_get, Bool, true, false, Option, Some, None, Result, Err, inl, inr, refl, sym, ap, ◌∙◌, subst, arith, All, Contains, slice_get_within, get_or_from_slice_get, All-head, All-tail, sum_by-append}
+use Rattle.rbg_base.proofs.Common.{◌≡◌, ℕ, ◌+◌, ◌*◌, ◌<◌, ◌≤◌, List, [], ◌∷◌, ◌++◌, length, take, slice_get, Bool, true, false, Option, Some, None, refl, sym, ap, ◌∙◌, subst, arith, All, Contains, slice_get_within, get_or_from_slice_get, All-head, All-tail, sum_by-append}
 use Rattle.std.proofs.lemmas.List.{length-append}
-use Rattle.rbg_rules.specs.Meaning.{AbstractGame, AbstractPlace, Legal, IsLegal, Finished, list_moves, IsTooHard}
-use Rattle.rbg_search.specs.declared.over.Over.{Over as AnyOver}
-use Rattle.rbg_search.specs.declared.over.Over.TheVariants.{Deep, Wide, Memory as OverMemory}
+use Rattle.rbg_rules.specs.Meaning.{AbstractGame, AbstractPlace, Legal, IsLegal, Finished}
 use Rattle.rbg_moves.specs.Listing.{IsGathered}
-use Rattle.rbg_moves.specs.Settling.{IsEndless, MeetsHeavy, Settles}
-use Rattle.rbg_moves.specs.declared.unsettled.Unsettled.{Unsettled}
-use Rattle.rbg_moves.specs.declared.unsettled.Unsettled.TheVariants as unsettled
+use Rattle.rbg_moves.specs.Settling.{Settles}
 use Rattle.rbg_questions.specs.declared.question_error.QuestionError.{QuestionError}
-use Rattle.rbg_questions.specs.Chance.{Plays, no_move, one_more, Ends, is_over, is_stopped, moves_in, IsUnmoved, heavy_to_list, heavy_to_settle, endless, no_memory, IsUnplayed}
+use Rattle.rbg_questions.specs.Chance.{Plays, no_move, one_more, Ends, is_over, is_stopped, moves_in, IsUnmoved, unlisted, IsUnplayed}
+use Rattle.rbg_questions.specs.Places.{no_memory}
 use Rattle.rbg_questions.specs.internal.Moving.{MovesOn, moved, rests, IsPlayedTo}
-use Rattle.rbg_questions.specs.internal.Refusing.{refusal_of_over, refusal_of_unsettled}
-
--- a question that was given up, and the keeper's moves after a move
-pub list_unmoved : (T : Type 0) (game : AbstractGame) (place : AbstractPlace) (over : AnyOver) → (◌≡◌ {A = Result T AnyOver} (Err over) (Err Deep) ⊎ ◌≡◌ {A = Result T AnyOver} (Err over) (Err Wide) → IsTooHard game list_moves place) → IsUnmoved game place (refusal_of_over over)
-list_unmoved T game place Deep hard = heavy_to_list (hard (inl refl))
-list_unmoved T game place Wide hard = heavy_to_list (hard (inr refl))
-list_unmoved T game place OverMemory hard = no_memory
-
-pub settle_unmoved : (T : Type 0) (game : AbstractGame) (place middle : AbstractPlace) (pairs : List (ℕ × ℕ)) (why : Unsettled) → Legal game place pairs middle → (◌≡◌ {A = Result T Unsettled} (Err why) (Err unsettled.Heavy) → MeetsHeavy game middle) → (◌≡◌ {A = Result T Unsettled} (Err why) (Err unsettled.Endless) → IsEndless game middle) → IsUnmoved game place (refusal_of_unsettled why)
-settle_unmoved T game place middle pairs unsettled.Heavy legal hard stuck = heavy_to_settle legal (hard refl)
-settle_unmoved T game place middle pairs unsettled.Endless legal hard stuck = endless legal (stuck refl)
-settle_unmoved T game place middle pairs unsettled.Memory legal hard stuck = no_memory
 
 -- an empty list of all legal moves
 nothing_in : {X : Type 0} (x : X) → Contains [] x → ⊥
@@ -97,7 +82,7 @@ unplayed_here game from to many refusal so few unmoved =
     record { moves = so.moves; few = omega (arith, so.many, few); to = to; plays = so.plays; unmoved = unmoved }
 
 pub unplayed_memory : (game : AbstractGame) (from : AbstractPlace) → IsUnplayed game from Rattle.rbg_questions.specs.declared.question_error.QuestionError.TheVariants.Memory
-unplayed_memory game from = record { moves = []; few = omega arith; to = from; plays = no_move; unmoved = no_memory }
+unplayed_memory game from = record { moves = []; few = omega arith; to = from; plays = no_move; unmoved = unlisted no_memory }
 
 -- what holds of each move holds of the one at an index
 pub legal_at : (game : AbstractGame) (place : AbstractPlace) (all : List (List (ℕ × ℕ))) (index : ℕ) (pairs : List (ℕ × ℕ)) → All (IsLegal game place) all → slice_get all index ≡ Some pairs → IsLegal game place pairs

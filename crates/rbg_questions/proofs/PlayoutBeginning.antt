@@ -1,32 +1,28 @@
 -- Why no matches are played, and how many there are.
-use Rattle.std.proofs.Common.{◌≡◌, ℕ, ◌++◌, List, [], map, Result, Err, refl, ap, ◌∙◌, subst, arith}
+use Rattle.std.proofs.Common.{◌≡◌, ℕ, ◌++◌, List, [], map, ap, ◌∙◌, subst, arith}
 use Rattle.rbg_rules.specs.Meaning.{AbstractGame, AbstractPlace}
-use Rattle.rbg_moves.specs.Settling.{IsEndless, MeetsHeavy, Settles}
-use Rattle.rbg_moves.specs.declared.unsettled.Unsettled.{Unsettled}
-use Rattle.rbg_moves.specs.declared.unsettled.Unsettled.TheVariants.{Heavy, Endless, Memory}
+use Rattle.rbg_moves.specs.Settling.{Settles}
 use Rattle.rbg_questions.specs.declared.tally.EndingTally.{EndingTally}
 use Rattle.rbg_questions.specs.declared.question_error.QuestionError.{QuestionError}
 use Rattle.rbg_questions.specs.Chance.{AreTallied, Counted, IsUnplayed, counted_by}
 use Rattle.rbg_questions.specs.Limits.{IsCount}
-use Rattle.rbg_questions.specs.Sessions.{beginning_of}
-use Rattle.rbg_questions.specs.internal.Refusing.{refusal_of_unsettled}
+use Rattle.rbg_moves.specs.Starting.{start_place}
+use Rattle.rbg_questions.specs.Places.{IsUnsettled}
 use Rattle.rbg_questions.proofs.Tallies.{few_tallied}
-use Rattle.rbg_questions.specs.Playing.{ArePlayouts, AreUnplayed, TellsPlayouts, heavy_to_begin, endless_at_first, no_memory, unplayed}
+use Rattle.rbg_questions.specs.Playing.{ArePlayouts, AreUnplayed, TellsPlayouts, unplayed, unsettled}
 use Rattle.rbg_questions.specs.Summary.{summary_text}
 use Rattle.rbg_questions.specs.internal.Bounds.{AreFew}
 
 -- the keeper's first moves
-pub unsettled_unplayed : (T : Type 0) (game : AbstractGame) (first : AbstractPlace) (why : Unsettled) → first ≡ beginning_of game → (◌≡◌ {A = Result T Unsettled} (Err why) (Err Heavy) → MeetsHeavy game first) → (◌≡◌ {A = Result T Unsettled} (Err why) (Err Endless) → IsEndless game first) → AreUnplayed game (refusal_of_unsettled why)
-unsettled_unplayed T game first Heavy same hard stuck = heavy_to_begin (subst (MeetsHeavy game) same (hard refl))
-unsettled_unplayed T game first Endless same hard stuck = endless_at_first (subst (IsEndless game) same (stuck refl))
-unsettled_unplayed T game first Memory same hard stuck = no_memory
+pub unsettled_first : (game : AbstractGame) (first : AbstractPlace) (refusal : QuestionError) → first ≡ start_place game → IsUnsettled game first refusal → AreUnplayed game refusal
+unsettled_first game first refusal same why = unsettled (subst (λ (p : AbstractPlace). IsUnsettled game p refusal) same why)
 
 -- the matches after these moves
-pub unplayed_after : (game : AbstractGame) (first place : AbstractPlace) (refusal : QuestionError) → first ≡ beginning_of game → Settles game first place → IsUnplayed game place refusal → AreUnplayed game refusal
+pub unplayed_after : (game : AbstractGame) (first place : AbstractPlace) (refusal : QuestionError) → first ≡ start_place game → Settles game first place → IsUnplayed game place refusal → AreUnplayed game refusal
 unplayed_after game first place refusal same settles why =
     unplayed (subst (λ (from : AbstractPlace). Settles game from place) same settles) why
 
-pub played_after : (game : AbstractGame) (first place : AbstractPlace) (count : ℕ) (counted : List Counted) → first ≡ beginning_of game → Settles game first place → AreTallied game place count counted → ArePlayouts game count counted
+pub played_after : (game : AbstractGame) (first place : AbstractPlace) (count : ℕ) (counted : List Counted) → first ≡ start_place game → Settles game first place → AreTallied game place count counted → ArePlayouts game count counted
 played_after game first place count counted same settles tallied = record {
   place = place;
   begins = subst (λ (from : AbstractPlace). Settles game from place) same settles;

@@ -11,9 +11,9 @@ use Rattle.rbg_questions.specs.declared.question.Question.TheVariants.{Sample}
 use Rattle.rbg_questions.specs.Answers.{Answer, answer_text, sampled as sampled_answer}
 use Rattle.rbg_questions.specs.Answering.{AnswersIn, IsRefused, StandsAt, samples, unsampled}
 use Rattle.rbg_questions.specs.Chance.{IsUnmoved, Plays, no_move, one_more}
-use Rattle.rbg_questions.specs.Searching.{IsUnsampled, no_memory, unmoved_on, untold}
+use Rattle.rbg_questions.specs.Searching.{IsUnsampled, unmoved_on, untold}
 use Rattle.rbg_questions.specs.Sessions.{AbstractSession}
-use Rattle.rbg_questions.specs.internal.Places.{IsUntold, heavy, memory}
+use Rattle.rbg_questions.specs.Places.{IsUntold}
 use Rattle.rbg_questions.specs.internal.Searching.{IsMade, TellsMove, WritesSample, moved, rests}
 
 -- So many moves were made, and these are their lines.
@@ -64,8 +64,7 @@ pub stuck_at : (game : AbstractGame) (from to : AbstractPlace) (most many : ℕ)
 stuck_at game from to most many lines refusal so_far few why = unmoved_on so_far.plays (omega (arith, few, so_far.many)) why
 
 pub untold_at : (game : AbstractGame) (from to : AbstractPlace) (most made : ℕ) (lines : List ℕ) (refusal : QuestionError) → IsMade game from most made to lines → IsUntold game to refusal → IsUnsampled game from most refusal
-untold_at game from to most made lines _ is (heavy hard) = untold is.sampled hard
-untold_at game from to most made lines _ is memory = no_memory
+untold_at game from to most made lines refusal is why = untold is.sampled why
 
 -- all lines
 pub writes_sample : (game : AbstractGame) (from to : AbstractPlace) (most made : ℕ) (lines shown : List ℕ) (standing : Answer) (old new : List ℕ) → IsMade game from most made to lines → StandsAt game to standing → shown ≡ lines → new ≡ old ++ (line_of (codes "sample " ++ decimal made) ++ shown ++ answer_text standing) → WritesSample game from most old new

@@ -9,19 +9,19 @@ use Rattle.rbg_moves.specs.Listing.{IsGathered, IsMoveBefore}
 use Rattle.rbg_moves.proofs.Outcome.{listed}
 use Rattle.rbg_wire.specs.Lines.{line_of}
 use Rattle.rbg_questions.specs.declared.question_error.QuestionError.{QuestionError}
+use Rattle.rbg_questions.specs.declared.question_error.QuestionError.TheVariants.{Memory}
 use Rattle.rbg_questions.specs.declared.question.Question.TheVariants.{Search}
 use Rattle.rbg_questions.specs.declared.tally.EndingTally.{EndingTally}
 use Rattle.rbg_questions.specs.Answers.{answer_text, searched}
 use Rattle.rbg_questions.specs.Answering.{AnswersIn, IsRefused, searches, unsearched}
-use Rattle.rbg_questions.specs.Chance.{AreTallied, Counted, counted_by, heavy_to_list, no_memory}
-use Rattle.rbg_questions.specs.Counting.{AreLegalMoves}
+use Rattle.rbg_questions.specs.Chance.{AreTallied, Counted, counted_by, unlisted}
 use Rattle.rbg_questions.specs.Limits.{IsCount}
 use Rattle.rbg_questions.specs.Searching.{IsSearched, IsUnsearched, Searched, means_text, searched_line, unmoved}
 use Rattle.rbg_questions.specs.Sessions.{AbstractSession, Leads}
 use Rattle.rbg_questions.specs.Summary.{finished_in, mean_text, total_of}
 use Rattle.rbg_questions.specs.internal.Bounds.{AreFew}
 use Rattle.rbg_questions.specs.internal.Ordering.{IsInOrder}
-use Rattle.rbg_questions.specs.Places.{IsUnlisted, no_room, too_hard}
+use Rattle.rbg_questions.specs.Places.{AreLegalMoves, IsUnlisted, no_memory}
 use Rattle.rbg_questions.specs.internal.Searching.{WritesMoves, WritesOne, WritesSearch}
 use Rattle.rbg_questions.proofs.Shaping.{and_then}
 use Rattle.rbg_questions.proofs.Tallies.{few_tallied}
@@ -129,8 +129,10 @@ writes_search game place count moves shown lent old mid new len (Err e) are is s
 
 -- why the moves weren't listed
 pub unlisted_search : (game : AbstractGame) (place : AbstractPlace) (refusal : QuestionError) → IsUnlisted game place refusal → IsUnsearched game place refusal
-unlisted_search game place _ (too_hard hard) = unmoved (heavy_to_list hard)
-unlisted_search game place _ no_room = unmoved no_memory
+unlisted_search game place refusal why = unmoved (unlisted why)
+
+pub search_memory : (game : AbstractGame) (place : AbstractPlace) → IsUnsearched game place Memory
+search_memory game place = unmoved (unlisted no_memory)
 
 -- what stood there still stands there
 pub kept_same : (bytes : List ℕ) → take (length bytes) bytes ≡ bytes

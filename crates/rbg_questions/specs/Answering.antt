@@ -1,13 +1,12 @@
 -- What a session answers to a question, and why it refuses one.
 use Rattle.std.specs.Prelude.{◌≡◌, ◌≢◌, ℕ, ◌+◌, ◌<◌, ◌≤◌, List, [], ◌∷◌, ◌++◌, length, take, Bool, false, Option, Some, None}
 use Rattle.std.specs.Borrow.{Bor}
-use Rattle.rbg_rules.specs.Meaning.{AbstractGame, AbstractPlace, AbstractAction, Legal, Finished, list_moves, IsPlaceOf, IsHeavyToFind, IsHeavyToTry, IsTooHard}
+use Rattle.rbg_rules.specs.Meaning.{AbstractGame, AbstractPlace, AbstractAction, Legal, Finished, IsPlaceOf}
 use Rattle.rbg_moves.specs.Listing.{IsListed}
-use Rattle.rbg_moves.specs.Settling.{IsEndless, MeetsHeavy}
 use Rattle.rbg_questions.specs.declared.question.Question.{Question}
 use Rattle.rbg_questions.specs.declared.question.Question.TheVariants.{Moves, Make, Back, Heard, Place, State, Key, Values, Board, Names, Shape, Random, Search, Sample, Pack, Unpack, Quit}
 use Rattle.rbg_questions.specs.declared.question_error.QuestionError.{QuestionError}
-use Rattle.rbg_questions.specs.declared.question_error.QuestionError.TheVariants.{Long, Illegal, Start, NoPlace, Over, Keeper, Memory}
+use Rattle.rbg_questions.specs.declared.question_error.QuestionError.TheVariants.{Long, Start, NoPlace, Memory}
 use Rattle.rbg_questions.specs.Limits.{longest_line}
 use Rattle.rbg_questions.specs.Questions.{SpellsQuestion}
 use Rattle.rbg_questions.specs.Misfits.{IsMisfit}
@@ -16,7 +15,7 @@ use Rattle.rbg_questions.specs.Keys.{key_of}
 use Rattle.rbg_questions.specs.Answers.{Answer, moves, to_move, finished, state, key, values, board, names, shape, by_chance, searched, sampled, packed, farewell, answer_text, refusal_text}
 use Rattle.rbg_questions.specs.Sessions.{AbstractSession, Leads}
 use Rattle.rbg_questions.specs.Chance.{Counted, AreTallied, IsUnplayed}
-use Rattle.rbg_questions.specs.Counting.{AreLegalMoves}
+use Rattle.rbg_questions.specs.Places.{AreLegalMoves, IsUnfollowed, IsUnlisted, IsUnmade, IsUntold}
 use Rattle.rbg_questions.specs.Searching.{AreSearched, IsSampled, IsUnsampled, IsUnsearched, Searched}
 use Rattle.rbg_questions.specs.Shapes.{AreActions}
 
@@ -136,64 +135,46 @@ pub data Answers (old : AbstractSession) : Question → (new : AbstractSession) 
       Answers old Quit old farewell
 
 -- Why a session refuses a question.
---   illegal: the move isn't legal.
---   heavy_to_try: the question whether it is legal is above the limits.
---   heavy_to_settle: a question for a move of the keeper after it is.
---   endless: the keeper is to move after 1,000 of its moves after it.
---   heavy_after: the question whether play is finished where the move leads is above the limits.
+--   unmade: the move isn't made, with the keeper's moves after it.
+--   untold_after: it isn't told how play stands where they lead.
 --   too_far: fewer moves were made than are to be undone.
---   not_heard: the move isn't legal where the moves lead that were heard.
---   heavy_to_hear: the question whether it is legal there is above the limits.
---   heavy_where_heard: the question whether play is finished where it leads is above the limits.
---   heavy_to_list, heavy_to_count: the question for the legal moves is above the limits.
---   heavy_to_find: the question whether play is finished is above the limits.
+--   unheard: the move isn't followed from where the moves lead that were heard.
+--   untold_where_heard: it isn't told how play stands where it leads.
+--   unlisted, uncounted: the legal moves aren't listed.
+--   untold: it isn't told how play stands.
 --   unplayed: a match by chance isn't played to its end.
 --   unsearched: the matches after each move aren't all played.
 --   unsampled: the match isn't played, or how play stands after it isn't told.
 --   not_packed: no place of the game is packed so.
---   heavy_where_unpacked: the question whether play is finished there is above the limits.
---   no_memory: it says nothing of the question.
+--   untold_where_unpacked: it isn't told how play stands there.
+--   out_of_memory: memory ran out, which says nothing of the question.
 pub data IsRefused (session : AbstractSession) : Question → QuestionError → Type 0 where
-  illegal : {pairs : List (ℕ × ℕ)} →
-      ((to : AbstractPlace) → ¬ Legal session.game session.place pairs to) →
-      IsRefused session (Make pairs) Illegal
-  heavy_to_try : {pairs : List (ℕ × ℕ)} →
-      IsHeavyToTry session.game session.place pairs →
-      IsRefused session (Make pairs) Over
-  heavy_to_settle : {pairs : List (ℕ × ℕ)} {middle : AbstractPlace} →
-      Legal session.game session.place pairs middle →
-      MeetsHeavy session.game middle →
-      IsRefused session (Make pairs) Over
-  endless : {pairs : List (ℕ × ℕ)} {middle : AbstractPlace} →
-      Legal session.game session.place pairs middle →
-      IsEndless session.game middle →
-      IsRefused session (Make pairs) Keeper
-  heavy_after : {pairs : List (ℕ × ℕ)} {to : AbstractPlace} →
+  unmade : {pairs : List (ℕ × ℕ)} {refusal : QuestionError} →
+      IsUnmade session.game session.place pairs refusal →
+      IsRefused session (Make pairs) refusal
+  untold_after : {pairs : List (ℕ × ℕ)} {to : AbstractPlace} {refusal : QuestionError} →
       Leads session.game session.place pairs to →
-      IsHeavyToFind session.game to →
-      IsRefused session (Make pairs) Over
+      IsUntold session.game to refusal →
+      IsRefused session (Make pairs) refusal
   too_far : {many : Option ℕ} →
       length session.before < undone many →
       IsRefused session (Back many) Start
-  not_heard : {pairs : List (ℕ × ℕ)} →
-      ((to : AbstractPlace) → ¬ Legal session.game session.heard pairs to) →
-      IsRefused session (Heard pairs) Illegal
-  heavy_to_hear : {pairs : List (ℕ × ℕ)} →
-      IsHeavyToTry session.game session.heard pairs →
-      IsRefused session (Heard pairs) Over
-  heavy_where_heard : {pairs : List (ℕ × ℕ)} {to : AbstractPlace} →
+  unheard : {pairs : List (ℕ × ℕ)} {refusal : QuestionError} →
+      IsUnfollowed session.game session.heard pairs refusal →
+      IsRefused session (Heard pairs) refusal
+  untold_where_heard : {pairs : List (ℕ × ℕ)} {to : AbstractPlace} {refusal : QuestionError} →
       Legal session.game session.heard pairs to →
-      IsHeavyToFind session.game to →
-      IsRefused session (Heard pairs) Over
-  heavy_to_list : {max : Option ℕ} →
-      IsTooHard session.game list_moves session.place →
-      IsRefused session (Moves max) Over
-  heavy_to_count :
-      IsTooHard session.game list_moves session.place →
-      IsRefused session State Over
-  heavy_to_find :
-      IsHeavyToFind session.game session.place →
-      IsRefused session Place Over
+      IsUntold session.game to refusal →
+      IsRefused session (Heard pairs) refusal
+  unlisted : {max : Option ℕ} {refusal : QuestionError} →
+      IsUnlisted session.game session.place refusal →
+      IsRefused session (Moves max) refusal
+  uncounted : {refusal : QuestionError} →
+      IsUnlisted session.game session.place refusal →
+      IsRefused session State refusal
+  untold : {refusal : QuestionError} →
+      IsUntold session.game session.place refusal →
+      IsRefused session Place refusal
   unplayed : {seed count : ℕ} {refusal : QuestionError} →
       IsUnplayed session.game session.place refusal →
       IsRefused session (Random seed count) refusal
@@ -206,12 +187,12 @@ pub data IsRefused (session : AbstractSession) : Question → QuestionError → 
   not_packed : {text : Bor (List ℕ)} →
       ((place : AbstractPlace) → IsPlaceOf session.game place → text.now ≢ packed_text place) →
       IsRefused session (Unpack text) NoPlace
-  heavy_where_unpacked : {text : Bor (List ℕ)} {place : AbstractPlace} →
+  untold_where_unpacked : {text : Bor (List ℕ)} {place : AbstractPlace} {refusal : QuestionError} →
       IsPlaceOf session.game place →
       text.now ≡ packed_text place →
-      IsHeavyToFind session.game place →
-      IsRefused session (Unpack text) Over
-  no_memory : {question : Question} →
+      IsUntold session.game place refusal →
+      IsRefused session (Unpack text) refusal
+  out_of_memory : {question : Question} →
       IsRefused session question Memory
 
 -- The question is answered so, and the answer's lines stand after the bytes that were there.

@@ -1,14 +1,13 @@
 -- Matches that are played by chance from a place, and how many of them end in which way.
 use Rattle.std.specs.Prelude.{◌≡◌, ◌≢◌, ℕ, ◌<◌, List, [], ◌∷◌, ◌++◌, length, take, map, All, AllPairs, Option, Some, None}
 use Rattle.std.specs.List.{sum_by}
-use Rattle.rbg_rules.specs.Meaning.{AbstractGame, AbstractPlace, Legal, Finished, IsTooHard, list_moves}
-use Rattle.rbg_moves.specs.Settling.{IsEndless, MeetsHeavy}
+use Rattle.rbg_rules.specs.Meaning.{AbstractGame, AbstractPlace, Finished}
 use Rattle.rbg_questions.specs.declared.question_error.QuestionError.{QuestionError}
-use Rattle.rbg_questions.specs.declared.question_error.QuestionError.TheVariants.{Over, Keeper, Memory}
 use Rattle.rbg_questions.specs.declared.tally.Ending.{Ending}
 use Rattle.rbg_questions.specs.declared.tally.Ending.TheVariants as endings
 use Rattle.rbg_questions.specs.declared.tally.EndingTally.{EndingTally}
 use Rattle.rbg_questions.specs.Limits.{most_played}
+use Rattle.rbg_questions.specs.Places.{IsStopped, IsUnlisted}
 use Rattle.rbg_questions.specs.Sessions.{Leads}
 
 -- Legal moves of the players, one after the other, each with the keeper's moves after it, lead from one place to the
@@ -66,22 +65,10 @@ pub record AreTallied (game : AbstractGame) (from : AbstractPlace) (count : ℕ)
   pub different : AllPairs (λ a b. a ≢ b) (map (λ counted. counted.scores) all)
   pub sum : sum_by (λ counted. counted.matches) all ≡ count
 
--- Why no move is made by chance at a place.
---   heavy_to_list: the question for the legal moves is above the limits.
---   heavy_to_settle: a question for a move of the keeper after one of them is.
---   endless: the keeper is to move after 1,000 of its moves after one of them.
---   no_memory: it says nothing of the place.
-pub data IsUnmoved (game : AbstractGame) (place : AbstractPlace) : QuestionError → Type 0 where
-  heavy_to_list : IsTooHard game list_moves place → IsUnmoved game place Over
-  heavy_to_settle : {pairs : List (ℕ × ℕ)} {middle : AbstractPlace} →
-      Legal game place pairs middle →
-      MeetsHeavy game middle →
-      IsUnmoved game place Over
-  endless : {pairs : List (ℕ × ℕ)} {middle : AbstractPlace} →
-      Legal game place pairs middle →
-      IsEndless game middle →
-      IsUnmoved game place Keeper
-  no_memory : IsUnmoved game place Memory
+-- Why no move is made by chance at a place: the legal moves aren't listed, or one of them is stopped.
+pub data IsUnmoved (game : AbstractGame) (place : AbstractPlace) (refusal : QuestionError) : Type 0 where
+  unlisted : IsUnlisted game place refusal → IsUnmoved game place refusal
+  stopped_at : {pairs : List (ℕ × ℕ)} → IsStopped game place pairs refusal → IsUnmoved game place refusal
 
 -- A match from the place isn't played to its end: fewer than 10,000 moves lead to where no move is made.
 pub record IsUnplayed (game : AbstractGame) (from : AbstractPlace) (refusal : QuestionError) : Type 0 where

@@ -1,15 +1,10 @@
 -- How many sequences of moves a game has from a place.
-use Rattle.std.specs.Prelude.{◌≡◌, ◌≢◌, ℕ, ◌+◌, ◌⊎◌, zero, suc, List, [], ◌∷◌, ◌++◌, All, AllPairs, Contains}
-use Rattle.rbg_rules.specs.Meaning.{AbstractGame, AbstractPlace, Legal, IsLegal, Finished}
+use Rattle.std.specs.Prelude.{◌≡◌, ℕ, ◌+◌, ◌⊎◌, zero, suc, List, [], ◌∷◌, ◌++◌}
+use Rattle.rbg_rules.specs.Meaning.{AbstractGame, AbstractPlace, Legal, Finished}
 use Rattle.rbg_moves.specs.Settling.{Settles}
+use Rattle.rbg_questions.specs.Places.{AreLegalMoves}
 use Rattle.rbg_questions.specs.declared.extent.Extent.{Extent}
 use Rattle.rbg_questions.specs.declared.extent.Extent.TheVariants.{Ends, Moves}
-
--- These are the legal moves, each once.
-pub record AreLegalMoves (game : AbstractGame) (place : AbstractPlace) (moves : List (List (ℕ × ℕ))) : Type 0 where
-  pub legal : All (IsLegal game place) moves
-  pub different : AllPairs (λ a b. a ≢ b) moves
-  pub whole : (pairs : List (ℕ × ℕ)) → IsLegal game place pairs → Contains moves pairs
 
 -- Each item has two numbers, and these are the sums.
 pub data Sums {A : Type 0} (Has : A → ℕ → ℕ → Type 0) : List A → ℕ → ℕ → Type 0 where

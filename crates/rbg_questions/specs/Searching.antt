@@ -1,13 +1,13 @@
 -- Matches that are played by chance after each legal move of a place.
 use Rattle.std.specs.Prelude.{◌<◌, ◌≤◌, ℕ, zero, suc, List, [], ◌++◌, length, map, All, AllPairs, codes, decimal}
-use Rattle.rbg_rules.specs.Meaning.{AbstractGame, AbstractPlace, Finished, IsHeavyToFind}
+use Rattle.rbg_rules.specs.Meaning.{AbstractGame, AbstractPlace, Finished}
 use Rattle.rbg_moves.specs.Listing.{IsMoveBefore}
 use Rattle.rbg_wire.specs.Lines.{line_of}
 use Rattle.rbg_wire.specs.Messages.{pairs_text}
 use Rattle.rbg_questions.specs.declared.question_error.QuestionError.{QuestionError}
-use Rattle.rbg_questions.specs.declared.question_error.QuestionError.TheVariants.{Over, Memory}
+use Rattle.rbg_questions.specs.declared.question_error.QuestionError.TheVariants.{Memory}
 use Rattle.rbg_questions.specs.Chance.{AreTallied, Counted, IsUnmoved, IsUnplayed, Plays}
-use Rattle.rbg_questions.specs.Counting.{AreLegalMoves}
+use Rattle.rbg_questions.specs.Places.{AreLegalMoves, IsUntold}
 use Rattle.rbg_questions.specs.Sessions.{Leads}
 use Rattle.rbg_questions.specs.Summary.{finished_in, mean_text, total_of}
 
@@ -59,16 +59,16 @@ pub record IsSampled (game : AbstractGame) (place : AbstractPlace) (most : ℕ) 
 
 -- Why no such match is played.
 --   unmoved_on: moves, fewer than so many, lead to where no move is made.
---   untold: moves, at most so many, lead to where the question whether play is finished is above the limits.
---   no_memory: it says nothing of the place.
+--   untold: moves, at most so many, lead to where it isn't told whether play is finished.
+--   no_memory: memory ran out, which says nothing of the place.
 pub data IsUnsampled (game : AbstractGame) (place : AbstractPlace) (most : ℕ) : QuestionError → Type 0 where
   unmoved_on : {moves : List (List (ℕ × ℕ))} {to : AbstractPlace} {refusal : QuestionError} →
       Plays game place moves to →
       length moves < most →
       IsUnmoved game to refusal →
       IsUnsampled game place most refusal
-  untold : {moves : List (List (ℕ × ℕ))} {to : AbstractPlace} →
+  untold : {moves : List (List (ℕ × ℕ))} {to : AbstractPlace} {refusal : QuestionError} →
       IsSampled game place most moves to →
-      IsHeavyToFind game to →
-      IsUnsampled game place most Over
+      IsUntold game to refusal →
+      IsUnsampled game place most refusal
   no_memory : IsUnsampled game place most Memory

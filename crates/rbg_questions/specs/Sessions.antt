@@ -1,6 +1,6 @@
 -- A session: the places that play has reached.
-use Rattle.std.specs.Prelude.{ℕ, List, [], ◌∷◌, ◌++◌, None}
-use Rattle.rbg_rules.specs.Meaning.{AbstractGame, start_of, AbstractPlace, Legal}
+use Rattle.std.specs.Prelude.{ℕ, List, [], ◌∷◌, ◌++◌}
+use Rattle.rbg_rules.specs.Meaning.{AbstractGame, AbstractPlace, Legal}
 use Rattle.rbg_moves.specs.Settling.{Settles}
 
 -- A session: its game, the place from which its moves count, the place to which the moves lead that were heard, the place
@@ -12,10 +12,6 @@ pub record AbstractSession : Type 0 where
   pub heard : AbstractPlace
   pub before : List AbstractPlace
   pub place : AbstractPlace
-
--- the place where the rules begin
-abbrev pub beginning_of : AbstractGame → AbstractPlace
-beginning_of game = record { state = start_of game; last = None }
 
 -- The move of these pairs, and the keeper's moves after it, lead from one place to the other.
 pub record Leads (game : AbstractGame) (from : AbstractPlace) (pairs : List (ℕ × ℕ)) (to : AbstractPlace) : Type 0 where

@@ -2,7 +2,7 @@
 ghost use Rattle.std.specs.Prelude.{IfErr, IfOk};
 ghost use Rattle.rbg_questions.specs.Counting.{AreCounted};
 ghost use Rattle.rbg_questions.specs.Refusals.{IsNotCounted};
-ghost use Rattle.rbg_questions.specs.Sessions.{beginning_of};
+ghost use Rattle.rbg_moves.specs.Starting.{start_place};
 
 use crate::counting::{Counts, count_sequences};
 use crate::error::CountError;
@@ -17,10 +17,10 @@ pub fn count_from_start(
     workspace: &mut Workspace,
 ) -> Result<Counts, CountError>
     ensures counted { IfOk result (λ counts.
-        AreCounted game.now moves extent (beginning_of game.now)
+        AreCounted game.now moves extent (start_place game.now)
         counts.sequences counts.ended) }
     ensures refused { IfErr result
-        (IsNotCounted game.now moves extent (beginning_of game.now)) }
+        (IsNotCounted game.now moves extent (start_place game.now)) }
 {
     let place = game.start()?;
     count_sequences(game, place, moves, extent, workspace)

@@ -11,7 +11,7 @@ use crate::question_error::QuestionError;
 use crate::tally::{Ending, EndingTally, Played, count_in};
 use rand_core::{Rng, SeedableRng};
 use rand_pcg::Pcg32;
-use rbg_moves::{Place, PlayedGame, Workspace};
+use rbg_moves::{GamePlace, Place, PlayedGame, Workspace};
 use std::alloc::Global;
 
 /// The most moves of the players in a match that is played by chance.
@@ -21,22 +21,20 @@ pub const MAX_PLAYED: u32 = 10_000;
 /// matches.
 pub fn play_matches(
     alloc: Global,
-    game: &PlayedGame,
-    from: &Place,
+    from: &GamePlace<'_>,
     draw: Draw,
     workspace: &mut Workspace,
 ) -> Result<Vec<EndingTally>, QuestionError>
-    requires place { IsPlaceOf game.now from.now }
-    requires count { IsCount draw.count }
+    requires { IsCount draw.count }
     ensures tallied { IfOk result (λ tallies.
-        AreTallied game.now from.now draw.count (map counted_by tallies.items)) }
-    ensures unplayed { IfErr result (IsUnplayed game.now from.now) }
+        AreTallied from.now.game from.now.place draw.count (map counted_by tallies.items)) }
+    ensures unplayed { IfErr result (IsUnplayed from.now.game from.now.place) }
 {
     let mut chance = Pcg32::seed_from_u64(draw.seed);
     let mut chosen = Chosen::counted();
     let mut tallies = Vec::new(alloc);
     for _ in 0..draw.count {
-        let played = play_match(game, from, &mut chance, &mut chosen, workspace)?;
+        let played = play_match(from, &mut chance, &mut chosen, workspace)?;
         count_in(played, &mut tallies)?;
     }
     Ok(tallies)
@@ -44,47 +42,44 @@ pub fn play_matches(
 
 /// Plays a match by chance from a place, and adds what is chosen. A seed always gives the same match, the first one of
 /// `play_matches`.
-pub fn play_seeded(
-    game: &PlayedGame,
-    from: &Place,
+pub(crate) fn play_seeded(
+    from: &GamePlace<'_>,
     seed: u64,
     chosen: &mut Chosen,
     workspace: &mut Workspace,
 ) -> Result<Played, QuestionError>
-    requires { IsPlaceOf game.now from.now }
     ensures ends { IfOk result (λ played.
-        IsPlayedTo game.now from.now (scores_of played.ending) played.moves) }
-    ensures unplayed { IfErr result (IsUnplayed game.now from.now) }
+        IsPlayedTo from.now.game from.now.place (scores_of played.ending) played.moves) }
+    ensures unplayed { IfErr result (IsUnplayed from.now.game from.now.place) }
 {
     let mut chance = Pcg32::seed_from_u64(seed);
-    play_match(game, from, &mut chance, chosen, workspace)
+    play_match(from, &mut chance, chosen, workspace)
 }
 
 /// Plays a match by chance from a place.
 fn play_match(
-    game: &PlayedGame,
-    from: &Place,
+    from: &GamePlace<'_>,
     chance: &mut Pcg32,
     chosen: &mut Chosen,
     workspace: &mut Workspace,
 ) -> Result<Played, QuestionError>
-    requires { IsPlaceOf game.now from.now }
     ensures ends { IfOk result (λ played.
-        IsPlayedTo game.now from.now (scores_of played.ending) played.moves) }
-    ensures unplayed { IfErr result (IsUnplayed game.now from.now) }
+        IsPlayedTo from.now.game from.now.place (scores_of played.ending) played.moves) }
+    ensures unplayed { IfErr result (IsUnplayed from.now.game from.now.place) }
 {
-    let mut place = workspace.copy_of(from)?;
+    let game = from.played();
+    let mut at = workspace.copy_of(from.place())?;
     for moves in 0..MAX_PLAYED {
-        if !move_on(game, &mut place, chance, chosen, workspace)? {
-            let scores = game.scores(&place);
-            workspace.keep(place);
+        if !move_on(game, &mut at, chance, chosen, workspace)? {
+            let scores = game.scores(&at);
+            workspace.keep(at);
             return Ok(Played {
                 ending: Ending::Finished { scores },
                 moves: u64::from(moves),
             });
         }
     }
-    workspace.keep(place);
+    workspace.keep(at);
     Ok(Played {
         ending: Ending::Stopped,
         moves: u64::from(MAX_PLAYED),

@@ -1,13 +1,15 @@
 //! Sequences of moves, counted.
-ghost use Rattle.std.specs.Prelude.{◌≡◌, ◌≢◌, ℕ, ◌+◌, ◌<◌, ◌^◌, ◌⊎◌, length, suc, All, AllPairs, IfErr, IfNone, IfOk, IfSome, OnOk};
+ghost use Rattle.std.specs.Prelude.{◌≡◌, ◌≢◌, ℕ, ◌+◌, ◌<◌, ◌⊎◌, length, suc, All, AllPairs, IfErr, IfNone, IfOk, IfSome, OnOk};
 ghost use Rattle.rbg_rules.specs.Meaning.{IsLegal, Legal, IsPlaceOf};
-ghost use Rattle.rbg_questions.specs.Counting.{AreCounted, AreCountedAfter, AreLegalMoves, Sums};
+ghost use Rattle.rbg_questions.specs.Counting.{AreCounted, AreCountedAfter, Sums};
+ghost use Rattle.rbg_questions.specs.Places.{AreLegalMoves};
 ghost use Rattle.rbg_questions.specs.Refusals.{IsNotCounted, IsNotCountedFrom, most_counted};
 ghost use Rattle.rbg_questions.specs.declared.extent.Extent.{Extent};
 ghost use Rattle.rbg_questions.specs.declared.extent.Extent.TheVariants.{Ends};
 
 use crate::error::CountError;
 use crate::extent::Extent;
+use crate::stepping::is_in_memory;
 use rbg_base::{Memory, Pair};
 use rbg_moves::{MoveList, Place, PlayedGame, Workspace};
 
@@ -207,12 +209,4 @@ fn list_all(
     let gathered = game.gather_moves(place, usize::MAX, workspace)?;
     is_in_memory(&gathered.moves);
     Ok(gathered.moves)
-}
-
-/// For proofs alone: no list in memory is so long that it is cut at the greatest length. It does nothing.
-#[inline(always)]
-fn is_in_memory(moves: &MoveList)
-    ensures { length moves.now < 2 ^ 63 }
-{
-    let _count = moves.len();
 }

@@ -1,11 +1,10 @@
 //! The keys of places.
-ghost use Rattle.std.specs.Prelude.{◌≡◌, ◌<◌, length, slice_get, Some};
-ghost use Rattle.rbg_rules.specs.Meaning.{IsPlaceOf};
+ghost use Rattle.std.specs.Prelude.{◌≡◌};
 ghost use Rattle.rbg_questions.specs.Keys.{key_of, mixed, mixed_all, number_of_last};
 
-use rbg_base::{Piece, Position, Variable};
+use crate::stepping::values_at;
+use rbg_base::{Piece, Position};
 use rbg_moves::Place;
-use rbg_rules::Game;
 
 /// The number by which a key is multiplied.
 const FACTOR: u64 = 6_364_136_223_846_793_005;
@@ -13,15 +12,14 @@ const FACTOR: u64 = 6_364_136_223_846_793_005;
 /// The greatest prime below 2^64.
 const MODULUS: u64 = 18_446_744_073_709_551_557;
 
-/// The key of a place of the game.
-pub fn key_of(game: &Game, place: &Place) -> u64
-    requires { IsPlaceOf game.now place.now }
+/// The key of a place.
+pub fn key_of(place: &Place) -> u64
     ensures { result ≡ key_of place.now }
 {
     let key = mix(0, u64::from(place.state.player()));
     let key = mix(key, u64::from(place.state.vertex()));
     let key = mix(key, number_of(place.after));
-    mix_pieces(mix_values(key, game, place), place.state.pieces())
+    mix_pieces(mix_values(key, values_at(place)), place.state.pieces())
 }
 
 /// The key after one more number.
@@ -33,22 +31,12 @@ fn mix(key: u64, number: u64) -> u64
     (mixed % u128::from(MODULUS)) as u64
 }
 
-/// What a variable holds at a place.
-#[inline(always)]
-fn value_at(place: &Place, variable: Variable) -> u32
-    requires { variable < length place.now.state.values }
-    ensures { slice_get place.now.state.values variable ≡ Some result }
-{
-    place.state.value(variable)
-}
-
-fn mix_values(first: u64, game: &Game, place: &Place) -> u64
-    requires { IsPlaceOf game.now place.now }
-    ensures { result ≡ mixed_all first place.now.state.values }
+fn mix_values(first: u64, values: &[u32]) -> u64
+    ensures { result ≡ mixed_all first values.now }
 {
     let mut key = first;
-    for index in 0..game.variables() {
-        key = mix(key, u64::from(value_at(place, index as Variable)));
+    for value in values {
+        key = mix(key, u64::from(*value));
     }
     key
 }

@@ -39,7 +39,7 @@ pub use answer_writer::{
     write_values,
 };
 pub use beginning::count_from_start;
-pub use chance::{MAX_PLAYED, play_matches, play_seeded};
+pub use chance::{MAX_PLAYED, play_matches};
 pub use chosen::Chosen;
 pub use counting::{Counts, count_sequences};
 pub use details::put_details;
@@ -54,8 +54,8 @@ pub use playing::{Matches, moves_of, playouts};
 pub use question::{MAX_COUNT, Question};
 pub use question_error::QuestionError;
 pub use question_reader::read_question;
-pub use rbg_moves::{PlayedGame, Unsettled, Workspace};
+pub use rbg_moves::{GamePlace, PlayedGame, Unsettled, Workspace};
 pub use session::{MAX_LINE, Session, first_place};
 pub use stepping::{follow, lead, moves_at, step};
 pub use survey::Survey;
-pub use tally::{Ending, EndingTally, Played, count_in};
+pub use tally::{Ending, EndingTally};

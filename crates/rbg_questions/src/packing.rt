@@ -12,18 +12,17 @@ use crate::packing_writer::{FORM, put_packed};
 use crate::question_error::QuestionError;
 use hex::FromHexError;
 use rbg_base::{Memory, Position};
-use rbg_moves::{Place, PlayedGame};
+use rbg_moves::{GamePlace, Place, PlayedGame};
 use rbg_rules::Game;
 use rbg_state::LentState;
 use std::alloc::Global;
 
-/// The bytes of a place of the game.
-pub fn pack(alloc: Global, game: &Game, place: &Place) -> Result<Vec<u8>, Memory>
-    requires { IsPlaceOf game.now place.now }
-    ensures { IfOk result (λ bytes. bytes.items ≡ packed_of place.now) }
+/// The bytes of a place.
+pub fn pack(alloc: Global, at: &GamePlace<'_>) -> Result<Vec<u8>, Memory>
+    ensures { IfOk result (λ bytes. bytes.items ≡ packed_of at.now.place) }
 {
     let mut bytes = Vec::new(alloc);
-    put_packed(game, place, &mut bytes)?;
+    put_packed(at, &mut bytes)?;
     Ok(bytes)
 }
 

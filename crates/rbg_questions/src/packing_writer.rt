@@ -1,15 +1,13 @@
 //! The calls that write a place as bytes, and as text.
 ghost use Rattle.std.specs.Prelude.{◌≡◌, ◌∷◌, ◌++◌};
 ghost use Rattle.std.specs.List.{flat_map};
-ghost use Rattle.rbg_rules.specs.Meaning.{IsPlaceOf};
 ghost use Rattle.rbg_wire.specs.Writing.{Appends, AppendsAll};
 ghost use Rattle.rbg_questions.specs.Answers.{packed as packed_answer, answer_text};
 ghost use Rattle.rbg_questions.specs.Packing.{in_two, in_four, packed_form, packed_of, position_of};
 
+use crate::stepping::values_at;
 use rbg_base::{Memory, Piece, Player, Position};
-use rbg_moves::Place;
-use rbg_rules::Game;
-use rbg_state::LentState;
+use rbg_moves::GamePlace;
 use rbg_wire::all_or_nothing;
 use std::alloc::Global;
 
@@ -35,30 +33,17 @@ fn put_pack(alloc: Global, bytes: &[u8], out: &mut Vec<u8>) -> Result<(), Memory
     out.extend_from_slice(b"\n")
 }
 
-/// Appends the bytes of a place of the game. On an error some of them may be there.
-pub(crate) fn put_packed(game: &Game, place: &Place, out: &mut Vec<u8>) -> Result<(), Memory>
-    requires { IsPlaceOf game.now place.now }
-    ensures { Appends out.old.items out.new.items (packed_of place.now) result }
+/// Appends the bytes of a place. On an error some of them may be there.
+pub(crate) fn put_packed(at: &GamePlace<'_>, out: &mut Vec<u8>) -> Result<(), Memory>
+    ensures { Appends out.old.items out.new.items (packed_of at.now.place) result }
 {
-    game.is_accepted();
+    at.game().is_accepted();
+    let place = at.place();
     let vertex = place.state.vertex() as u16;
     let last = number_of(place.after) as u16;
-    let values = values_of(place);
+    let values = values_at(place);
     put_first(place.state.player(), vertex, last, out)?;
     put_rest(place.state.pieces(), values, out)
-}
-
-/// What the variables hold.
-fn values_of(place: &Place) -> &[u32]
-    ensures { result.now ≡ place.now.state.values }
-{
-    let LentState {
-        player: _,
-        vertex: _,
-        pieces: _,
-        values,
-    } = place.state.lend();
-    values
 }
 
 fn put_first(player: Player, vertex: u16, last: u16, out: &mut Vec<u8>) -> Result<(), Memory>

@@ -1,6 +1,5 @@
 //! Matches from the beginning of play.
 ghost use Rattle.std.specs.Prelude.{IfErr, IfOk, map};
-ghost use Rattle.rbg_rules.specs.Meaning.{IsPlaceOf};
 ghost use Rattle.rbg_questions.specs.Chance.{AreTallied, IsUnplayed, counted_by};
 ghost use Rattle.rbg_questions.specs.Limits.{IsCount};
 ghost use Rattle.rbg_questions.specs.Playing.{ArePlayouts, AreUnplayed, TellsPlayouts};
@@ -12,7 +11,7 @@ use crate::question_error::QuestionError;
 use crate::summary_writer::put_summary;
 use crate::survey::Survey;
 use crate::tally::{EndingTally, count_in};
-use rbg_moves::{Place, PlayedGame, Workspace};
+use rbg_moves::{GamePlace, PlayedGame, Workspace};
 use std::alloc::Global;
 
 /// Matches that were played by chance.
@@ -82,28 +81,27 @@ fn play_on(
 {
     let mut place = game.start()?;
     game.settle(&mut place, workspace)?;
-    let tallies = play_all(game, &place, draw, survey, workspace)?;
+    let from = GamePlace::new(game, &place);
+    let tallies = play_all(&from, draw, survey, workspace)?;
     Ok(tallies)
 }
 
 /// Plays so many matches by chance from a place, and counts how they end.
 fn play_all(
-    game: &PlayedGame,
-    from: &Place,
+    from: &GamePlace<'_>,
     draw: Draw,
     survey: &mut Survey,
     workspace: &mut Workspace,
 ) -> Result<Vec<EndingTally>, QuestionError>
-    requires place { IsPlaceOf game.now from.now }
-    requires count { IsCount draw.count }
+    requires { IsCount draw.count }
     ensures tallied { IfOk result (λ tallies.
-        AreTallied game.now from.now draw.count (map counted_by tallies.items)) }
-    ensures unplayed { IfErr result (IsUnplayed game.now from.now) }
+        AreTallied from.now.game from.now.place draw.count (map counted_by tallies.items)) }
+    ensures unplayed { IfErr result (IsUnplayed from.now.game from.now.place) }
 {
     let mut tallies = Vec::new(*survey.seeds.allocator());
     let mut seeded = draw.seed;
     for _ in 0..draw.count {
-        let played = play_seeded(game, from, seeded, &mut survey.chosen, workspace)?;
+        let played = play_seeded(from, seeded, &mut survey.chosen, workspace)?;
         survey.add(seeded, &played, tallies.as_slice())?;
         count_in(played, &mut tallies)?;
         seeded = seeded.wrapping_add(1);
@@ -127,6 +125,7 @@ fn play_once(
 ) -> Result<(), QuestionError> {
     let mut place = game.start()?;
     game.settle(&mut place, workspace)?;
-    let _played = play_seeded(game, &place, seed, chosen, workspace)?;
+    let from = GamePlace::new(game, &place);
+    let _played = play_seeded(&from, seed, chosen, workspace)?;
     Ok(())
 }

@@ -15,27 +15,28 @@ use crate::question_error::QuestionError;
 use crate::stepping::standing_at;
 use rand_core::SeedableRng;
 use rand_pcg::Pcg32;
-use rbg_moves::{Place, PlayedGame, Workspace};
+use rbg_moves::{GamePlace, Place, PlayedGame, Workspace};
 
 /// Plays a match of at most so many moves by chance from a place, and appends the lines of its moves and of how play
 /// stands after them. On an error the bytes are unchanged.
 pub(crate) fn write_sample(
-    game: &PlayedGame,
-    from: &Place,
+    from: &GamePlace<'_>,
     draw: Draw,
     workspace: &mut Workspace,
     out: &mut Vec<u8>,
 ) -> Result<(), QuestionError>
-    requires { IsPlaceOf game.now from.now }
-    ensures sampled { OnOk result (WritesSample game.now from.now draw.count out.old.items out.new.items) }
-    ensures unsampled { IfErr result (IsUnsampled game.now from.now draw.count) }
+    ensures sampled { OnOk result (WritesSample from.now.game from.now.place draw.count
+        out.old.items out.new.items) }
+    ensures unsampled { IfErr result (IsUnsampled from.now.game from.now.place draw.count) }
     ensures kept { OnErr result (out.new.items ≡ out.old.items) }
 {
     let mut lines = Vec::new(*out.allocator());
-    let mut place = workspace.copy_of(from)?;
-    let made = make_moves(game, &mut place, draw, &mut lines, workspace)?;
-    let standing = standing_at(game, &place, workspace)?;
-    workspace.keep(place);
+    let game = from.played();
+    let mut to = workspace.copy_of(from.place())?;
+    let made = make_moves(game, &mut to, draw, &mut lines, workspace)?;
+    let there = GamePlace::new(game, &to);
+    let standing = standing_at(&there, workspace)?;
+    workspace.keep(to);
     write_sampled(made, lines.as_slice(), &standing, out)?;
     Ok(())
 }

@@ -1,9 +1,9 @@
 //! Matches that are played by chance after each legal move of a place.
 ghost use Rattle.std.specs.Prelude.{◌≡◌, ◌*◌, ◌≤◌, ◌++◌, All, IfErr, OnErr, OnOk, codes, length, map, take};
-ghost use Rattle.rbg_rules.specs.Meaning.{IsLegal, IsPlaceOf};
+ghost use Rattle.rbg_rules.specs.Meaning.{IsLegal};
 ghost use Rattle.rbg_wire.specs.Writing.{Appends};
 ghost use Rattle.rbg_questions.specs.Chance.{counted_by};
-ghost use Rattle.rbg_questions.specs.Counting.{AreLegalMoves};
+ghost use Rattle.rbg_questions.specs.Places.{AreLegalMoves};
 ghost use Rattle.rbg_questions.specs.Limits.{IsCount, most_counted};
 ghost use Rattle.rbg_questions.specs.Searching.{IsUnsearched, means_text, searched_line};
 ghost use Rattle.rbg_questions.specs.Summary.{finished_in, mean_text, total_of};
@@ -12,7 +12,7 @@ ghost use Rattle.rbg_questions.specs.internal.Searching.{WritesMoves, WritesOne,
 
 use crate::answer_writer::put_head;
 use crate::chance::play_matches;
-use crate::draw::{Draw, Trials};
+use crate::draw::Draw;
 use crate::ordering::in_order;
 use crate::question_error::QuestionError;
 use crate::stepping::{is_in_memory, moves_at, step};
@@ -20,31 +20,28 @@ use crate::summary_writer::put_mean;
 use crate::sums::{Counting, add_scores, sum_of};
 use crate::tally::EndingTally;
 use rbg_base::{Memory, MoveList, Pair};
-use rbg_moves::{Place, PlayedGame, Workspace};
+use rbg_moves::{GamePlace, Workspace};
 use rbg_rules::Game;
 use rbg_wire::{write_number, write_pairs};
 
 /// Plays so many matches by chance after each legal move of a place, and appends the lines that tell how they ended. The
 /// matches after each move begin chance with the same seed. On an error the bytes are unchanged.
 pub(crate) fn write_search(
-    game: &PlayedGame,
-    place: &Place,
+    from: &GamePlace<'_>,
     draw: Draw,
     workspace: &mut Workspace,
     out: &mut Vec<u8>,
 ) -> Result<(), QuestionError>
-    requires place { IsPlaceOf game.now place.now }
-    requires count { IsCount draw.count }
-    ensures searched { OnOk result (WritesSearch game.now place.now draw.count out.old.items
-        out.new.items) }
-    ensures unsearched { IfErr result (IsUnsearched game.now place.now) }
+    requires { IsCount draw.count }
+    ensures searched { OnOk result (WritesSearch from.now.game from.now.place draw.count
+        out.old.items out.new.items) }
+    ensures unsearched { IfErr result (IsUnsearched from.now.game from.now.place) }
     ensures kept { OnErr result (out.new.items ≡ out.old.items) }
 {
-    let gathered = moves_at(game, place, usize::MAX, workspace)?;
+    let gathered = moves_at(from, usize::MAX, workspace)?;
     is_in_memory(&gathered.moves);
     let len = out.len();
-    let trials = Trials { game, place, draw };
-    let written = put_search(&trials, &gathered.moves, workspace, out);
+    let written = put_search(from, draw, &gathered.moves, workspace, out);
     workspace.keep_moves(gathered.moves);
     if written.is_err() {
         out.truncate(len);
@@ -54,65 +51,66 @@ pub(crate) fn write_search(
 
 /// Plays matches after each of the moves, in their order.
 fn put_search(
-    trials: &Trials,
+    from: &GamePlace<'_>,
+    draw: Draw,
     moves: &MoveList,
     workspace: &mut Workspace,
     out: &mut Vec<u8>,
 ) -> Result<(), QuestionError>
-    requires place { IsPlaceOf trials.now.game.now trials.now.place.now }
-    requires count { IsCount trials.now.draw.count }
-    requires moves { AreLegalMoves trials.now.game.now trials.now.place.now moves.now }
-    ensures searched { OnOk result (WritesSearch trials.now.game.now trials.now.place.now
-        trials.now.draw.count out.old.items out.new.items) }
-    ensures unsearched { IfErr result (IsUnsearched trials.now.game.now trials.now.place.now) }
+    requires count { IsCount draw.count }
+    requires moves { AreLegalMoves from.now.game from.now.place moves.now }
+    ensures searched { OnOk result (WritesSearch from.now.game from.now.place
+        draw.count out.old.items out.new.items) }
+    ensures unsearched { IfErr result (IsUnsearched from.now.game from.now.place) }
     ensures kept { take (length out.old.items) out.new.items ≡ out.old.items }
 {
     let ordered = in_order(*out.allocator(), moves)?;
     put_head(b"search ", ordered.len() as u64, out)?;
-    put_moves(trials, ordered.as_slice(), workspace, out)
+    put_moves(from, draw, ordered.as_slice(), workspace, out)
 }
 
 /// Plays matches after each of the moves, and appends a line for each.
 fn put_moves(
-    trials: &Trials,
+    from: &GamePlace<'_>,
+    draw: Draw,
     moves: &[&[Pair]],
     workspace: &mut Workspace,
     out: &mut Vec<u8>,
 ) -> Result<(), QuestionError>
-    requires place { IsPlaceOf trials.now.game.now trials.now.place.now }
-    requires count { IsCount trials.now.draw.count }
-    requires legal { All (λ m. IsLegal trials.now.game.now trials.now.place.now m.now)
+    requires count { IsCount draw.count }
+    requires legal { All (λ m. IsLegal from.now.game from.now.place m.now)
         moves.now }
-    ensures searched { OnOk result (WritesMoves trials.now.game.now trials.now.place.now
-        trials.now.draw.count (map (λ m. m.now) moves.now) out.old.items out.new.items) }
-    ensures unsearched { IfErr result (IsUnsearched trials.now.game.now trials.now.place.now) }
+    ensures searched { OnOk result (WritesMoves from.now.game from.now.place
+        draw.count (map (λ m. m.now) moves.now) out.old.items out.new.items) }
+    ensures unsearched { IfErr result (IsUnsearched from.now.game from.now.place) }
     ensures kept { take (length out.old.items) out.new.items ≡ out.old.items }
 {
     for pairs in moves {
-        put_one(trials, pairs, workspace, out)?;
+        put_one(from, draw, pairs, workspace, out)?;
     }
     Ok(())
 }
 
 /// Plays matches after a move, and appends its line.
 fn put_one(
-    trials: &Trials,
+    from: &GamePlace<'_>,
+    draw: Draw,
     pairs: &[Pair],
     workspace: &mut Workspace,
     out: &mut Vec<u8>,
 ) -> Result<(), QuestionError>
-    requires place { IsPlaceOf trials.now.game.now trials.now.place.now }
-    requires count { IsCount trials.now.draw.count }
-    requires legal { IsLegal trials.now.game.now trials.now.place.now pairs.now }
-    ensures searched { OnOk result (WritesOne trials.now.game.now trials.now.place.now
-        trials.now.draw.count pairs.now out.old.items out.new.items) }
-    ensures unsearched { IfErr result (IsUnsearched trials.now.game.now trials.now.place.now) }
+    requires count { IsCount draw.count }
+    requires legal { IsLegal from.now.game from.now.place pairs.now }
+    ensures searched { OnOk result (WritesOne from.now.game from.now.place
+        draw.count pairs.now out.old.items out.new.items) }
+    ensures unsearched { IfErr result (IsUnsearched from.now.game from.now.place) }
     ensures kept { take (length out.old.items) out.new.items ≡ out.old.items }
 {
-    let to = step(trials.game, trials.place, pairs, workspace)?;
-    let tallies = play_matches(*out.allocator(), trials.game, &to, trials.draw, workspace)?;
+    let to = step(from, pairs, workspace)?;
+    let there = GamePlace::new(from.played(), &to);
+    let tallies = play_matches(*out.allocator(), &there, draw, workspace)?;
     workspace.keep(to);
-    put_line(trials.game.as_game(), tallies.as_slice(), pairs, out)?;
+    put_line(from.game(), tallies.as_slice(), pairs, out)?;
     Ok(())
 }
 

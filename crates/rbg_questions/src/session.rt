@@ -7,7 +7,8 @@ ghost use Rattle.rbg_questions.specs.Answering.{AnswersIn, GoesBack, Hears, IsLi
 ghost use Rattle.rbg_questions.specs.Answers.{to_move};
 ghost use Rattle.rbg_questions.specs.Limits.{longest_line};
 ghost use Rattle.rbg_questions.specs.Questions.{QuestionHasSpelling};
-ghost use Rattle.rbg_questions.specs.Sessions.{AbstractSession, HasLedTo, beginning_of};
+ghost use Rattle.rbg_questions.specs.Sessions.{AbstractSession, HasLedTo};
+ghost use Rattle.rbg_moves.specs.Starting.{start_place};
 ghost use Rattle.rbg_questions.specs.internal.Codes.{coded_session};
 ghost use Rattle.rbg_questions.specs.Places.{AreReached};
 ghost use Rattle.rbg_questions.specs.internal.Places.{IsHeardPlace};
@@ -36,7 +37,7 @@ use crate::stepping::{
     count_at, follow, is_in_memory, lead, moves_at, pieces_at, standing_at, standing_of, values_at,
 };
 use rbg_base::{Memory, Move, Player};
-use rbg_moves::{Place, PlayedGame, Unsettled, Workspace};
+use rbg_moves::{GamePlace, Place, PlayedGame, Unsettled, Workspace};
 use rbg_rules::Game;
 use std::alloc::Global;
 use std::marker::Model;
@@ -85,10 +86,10 @@ impl Drop for Session {
 
 /// The place to which the keeper's first moves lead.
 pub fn first_place(game: &PlayedGame, workspace: &mut Workspace) -> Result<Place, Unsettled>
-    ensures place { IfOk result (λ place. Settles game.now (beginning_of game.now) place) }
-    ensures reached { IfOk result (AreReached game.now (beginning_of game.now) []) }
-    ensures heavy { result ≡ Err Heavy → MeetsHeavy game.now (beginning_of game.now) }
-    ensures endless { result ≡ Err Endless → IsEndless game.now (beginning_of game.now) }
+    ensures place { IfOk result (λ place. Settles game.now (start_place game.now) place) }
+    ensures reached { IfOk result (AreReached game.now (start_place game.now) []) }
+    ensures heavy { result ≡ Err Heavy → MeetsHeavy game.now (start_place game.now) }
+    ensures endless { result ≡ Err Endless → IsEndless game.now (start_place game.now) }
 {
     let mut place = game.start()?;
     game.settle(&mut place, workspace)?;
@@ -99,13 +100,13 @@ impl Session {
     /// A session at the place to which the keeper's first moves lead.
     pub fn new(alloc: Global, game: Game) -> Result<Session, Unsettled>
         ensures game { IfOk result (λ session. session.game ≡ game) }
-        ensures origin { IfOk result (λ session. session.origin ≡ beginning_of game) }
-        ensures heard { IfOk result (λ session. session.heard ≡ beginning_of game) }
+        ensures origin { IfOk result (λ session. session.origin ≡ start_place game) }
+        ensures heard { IfOk result (λ session. session.heard ≡ start_place game) }
         ensures before { IfOk result (λ session. session.before ≡ []) }
         ensures place { IfOk result (λ session.
-            Settles game (beginning_of game) session.place) }
-        ensures heavy { result ≡ Err Heavy → MeetsHeavy game (beginning_of game) }
-        ensures endless { result ≡ Err Endless → IsEndless game (beginning_of game) }
+            Settles game (start_place game) session.place) }
+        ensures heavy { result ≡ Err Heavy → MeetsHeavy game (start_place game) }
+        ensures endless { result ≡ Err Endless → IsEndless game (start_place game) }
     {
         let mut game = PlayedGame::new(alloc, game)?;
         game.weigh()?;
@@ -208,7 +209,8 @@ impl Session {
         ensures kept { self.new ≡ self.old }
         ensures out { OnErr result (out.new.items ≡ out.old.items) }
     {
-        let gathered = moves_at(&self.game, &self.place, limit_of(max), &mut self.workspace)?;
+        let here = GamePlace::new(&self.game, &self.place);
+        let gathered = moves_at(&here, limit_of(max), &mut self.workspace)?;
         is_in_memory(&gathered.moves);
         write_in_order(self.alloc, &gathered.moves, gathered.cut, out)?;
         self.workspace.keep_moves(gathered.moves);
@@ -224,8 +226,10 @@ impl Session {
         ensures kept { OnErr result (self.new ≡ self.old) }
         ensures out { OnErr result (out.new.items ≡ out.old.items) }
     {
-        let to = lead(&self.game, &self.place, pairs, &mut self.workspace)?;
-        let standing = standing_at(&self.game, &to, &mut self.workspace)?;
+        let here = GamePlace::new(&self.game, &self.place);
+        let to = lead(&here, pairs, &mut self.workspace)?;
+        let there = GamePlace::new(&self.game, &to);
+        let standing = standing_at(&there, &mut self.workspace)?;
         self.before.reserve(1)?;
         write_standing(&standing, out)?;
         self.before.push_reserved(replace(&mut self.place, to));
@@ -241,8 +245,10 @@ impl Session {
         ensures kept { OnErr result (self.new ≡ self.old) }
         ensures out { OnErr result (out.new.items ≡ out.old.items) }
     {
-        let heard = follow(&self.game, &self.heard, pairs, &mut self.workspace)?;
-        let standing = standing_at(&self.game, &heard, &mut self.workspace)?;
+        let from = GamePlace::new(&self.game, &self.heard);
+        let heard = follow(&from, pairs, &mut self.workspace)?;
+        let there = GamePlace::new(&self.game, &heard);
+        let standing = standing_at(&there, &mut self.workspace)?;
         let place = self.workspace.copy_of(&heard)?;
         write_standing(&standing, out)?;
         self.before.clear();
@@ -313,7 +319,8 @@ impl Session {
         ensures kept { self.new ≡ self.old }
         ensures out { OnErr result (out.new.items ≡ out.old.items) }
     {
-        let standing = standing_at(&self.game, &self.place, &mut self.workspace)?;
+        let here = GamePlace::new(&self.game, &self.place);
+        let standing = standing_at(&here, &mut self.workspace)?;
         write_standing(&standing, out)?;
         Ok(())
     }
@@ -326,17 +333,16 @@ impl Session {
         ensures kept { self.new ≡ self.old }
         ensures out { OnErr result (out.new.items ≡ out.old.items) }
     {
-        let count = count_at(&self.game, &self.place, &mut self.workspace)?;
-        let standing = standing_of(&self.game, &self.place, count);
-        let values = values_at(self.alloc, &self.game, &self.place)?;
-        let held = values.as_slice();
-        let key = key_of(self.game.as_game(), &self.place);
+        let here = GamePlace::new(&self.game, &self.place);
+        let count = count_at(&here, &mut self.workspace)?;
+        let standing = standing_of(&here, count);
+        let key = key_of(&self.place);
         let state = StateLines {
             count,
             key,
             standing: &standing,
             pieces: pieces_at(&self.place),
-            values: held,
+            values: values_at(&self.place),
         };
         write_state(&state, out)?;
         Ok(())
@@ -346,7 +352,7 @@ impl Session {
     fn tell_key(&self, out: &mut Vec<u8>) -> Result<(), QuestionError>
         ensures { Tells self.now questions.Key out.old.items out.new.items result }
     {
-        write_key(key_of(self.game.as_game(), &self.place), out)?;
+        write_key(key_of(&self.place), out)?;
         Ok(())
     }
 
@@ -354,8 +360,7 @@ impl Session {
     fn tell_values(&self, out: &mut Vec<u8>) -> Result<(), QuestionError>
         ensures { Tells self.now questions.Values out.old.items out.new.items result }
     {
-        let values = values_at(self.alloc, &self.game, &self.place)?;
-        write_values(values.as_slice(), out)?;
+        write_values(values_at(&self.place), out)?;
         Ok(())
     }
 
@@ -387,7 +392,8 @@ impl Session {
     fn tell_packed(&self, out: &mut Vec<u8>) -> Result<(), QuestionError>
         ensures { Tells self.now questions.Pack out.old.items out.new.items result }
     {
-        let bytes = pack(self.alloc, self.game.as_game(), &self.place)?;
+        let here = GamePlace::new(&self.game, &self.place);
+        let bytes = pack(self.alloc, &here)?;
         write_pack(self.alloc, bytes.as_slice(), out)?;
         Ok(())
     }
@@ -402,7 +408,8 @@ impl Session {
         ensures out { OnErr result (out.new.items ≡ out.old.items) }
     {
         let place = place_in(self.alloc, &self.game, text)?;
-        let standing = standing_at(&self.game, &place, &mut self.workspace)?;
+        let there = GamePlace::new(&self.game, &place);
+        let standing = standing_at(&there, &mut self.workspace)?;
         let origin = self.workspace.copy_of(&place)?;
         let heard = self.workspace.copy_of(&place)?;
         write_standing(&standing, out)?;
@@ -427,8 +434,8 @@ impl Session {
         ensures kept { self.new ≡ self.old }
         ensures out { OnErr result (out.new.items ≡ out.old.items) }
     {
-        let draw = Draw { seed, count };
-        write_search(&self.game, &self.place, draw, &mut self.workspace, out)
+        let here = GamePlace::new(&self.game, &self.place);
+        write_search(&here, Draw { seed, count }, &mut self.workspace, out)
     }
 
     /// Plays one match by chance from where play stands.
@@ -440,8 +447,9 @@ impl Session {
         ensures kept { self.new ≡ self.old }
         ensures out { OnErr result (out.new.items ≡ out.old.items) }
     {
+        let here = GamePlace::new(&self.game, &self.place);
         let draw = Draw { seed, count: most };
-        write_sample(&self.game, &self.place, draw, &mut self.workspace, out)
+        write_sample(&here, draw, &mut self.workspace, out)
     }
 
     /// Plays matches by chance from where play stands.
@@ -459,13 +467,9 @@ impl Session {
         ensures kept { self.new ≡ self.old }
         ensures out { OnErr result (out.new.items ≡ out.old.items) }
     {
-        let tallies = play_matches(
-            self.alloc,
-            &self.game,
-            &self.place,
-            Draw { seed, count },
-            &mut self.workspace,
-        )?;
+        let here = GamePlace::new(&self.game, &self.place);
+        let draw = Draw { seed, count };
+        let tallies = play_matches(self.alloc, &here, draw, &mut self.workspace)?;
         write_matches(count, tallies.as_slice(), out)?;
         Ok(())
     }

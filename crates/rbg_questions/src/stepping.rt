@@ -1,52 +1,47 @@
 //! From one place of a session to the next, and how play stands there.
-ghost use Rattle.std.specs.Prelude.{◌≡◌, ◌<◌, ◌^◌, length, IfErr, IfOk};
-ghost use Rattle.rbg_rules.specs.Meaning.{IsLegal, IsPlaceOf, Legal};
+ghost use Rattle.std.specs.Prelude.{◌≡◌, ◌<◌, ◌^◌, length, IfErr, IfOk, OnOk};
+ghost use Rattle.rbg_rules.specs.Meaning.{IsLegal, IsPlaceOf, Legal, list_moves, try_move};
+ghost use Rattle.rbg_moves.specs.Limits.{FitsLimits};
 ghost use Rattle.rbg_moves.specs.Listing.{IsGathered};
 ghost use Rattle.rbg_questions.specs.Answers.{standing_answer};
 ghost use Rattle.rbg_questions.specs.Answering.{HasMoves, StandsAt};
-ghost use Rattle.rbg_questions.specs.Chance.{IsUnmoved};
 ghost use Rattle.rbg_questions.specs.Sessions.{Leads};
-ghost use Rattle.rbg_questions.specs.Places.{IsUnfollowed, IsUnlisted, IsUnmade};
-ghost use Rattle.rbg_questions.specs.internal.Places.{IsUntold};
+ghost use Rattle.rbg_questions.specs.Places.{IsAnswered, IsStopped, IsUnfollowed, IsUnlisted, IsUnmade, IsUntold};
 
 use crate::play_standing::PlayStanding;
 use crate::question_error::QuestionError;
-use rbg_base::{Memory, Move, MoveList, Pair, Piece, Variable};
-use rbg_moves::{Gathered, Place, PlayedGame, Workspace};
-use std::alloc::Global;
+use rbg_base::{Move, MoveList, Pair, Piece};
+use rbg_moves::{GamePlace, Gathered, Place, Workspace};
+use rbg_state::LentState;
 
 /// The place to which a move leads with the keeper's moves after it.
 pub fn lead(
-    game: &PlayedGame,
-    place: &Place,
+    from: &GamePlace<'_>,
     pairs: &Move,
     workspace: &mut Workspace,
 ) -> Result<Place, QuestionError>
-    requires { IsPlaceOf game.now place.now }
-    ensures leads { IfOk result (Leads game.now place.now pairs.now) }
-    ensures in_game { IfOk result (IsPlaceOf game.now) }
-    ensures unmade { IfErr result (IsUnmade game.now place.now pairs.now) }
+    ensures leads { IfOk result (Leads from.now.game from.now.place pairs.now) }
+    ensures in_game { IfOk result (IsPlaceOf from.now.game) }
+    ensures answered { OnOk result (IsAnswered from.now.game (try_move pairs.now) from.now.place) }
+    ensures unmade { IfErr result (IsUnmade from.now.game from.now.place pairs.now) }
 {
-    let Some(mut to) = game.try_move(place, pairs, workspace)? else {
-        return Err(QuestionError::Illegal);
-    };
-    game.settle(&mut to, workspace)?;
+    let mut to = follow(from, pairs, workspace)?;
+    from.played().settle(&mut to, workspace)?;
     Ok(to)
 }
 
-/// The place to which a move leads that was heard.
+/// The place to which a move leads, with no move of the keeper after it.
 pub fn follow(
-    game: &PlayedGame,
-    place: &Place,
+    from: &GamePlace<'_>,
     pairs: &Move,
     workspace: &mut Workspace,
 ) -> Result<Place, QuestionError>
-    requires { IsPlaceOf game.now place.now }
-    ensures legal { IfOk result (Legal game.now place.now pairs.now) }
-    ensures in_game { IfOk result (IsPlaceOf game.now) }
-    ensures unfollowed { IfErr result (IsUnfollowed game.now place.now pairs.now) }
+    ensures legal { IfOk result (Legal from.now.game from.now.place pairs.now) }
+    ensures in_game { IfOk result (IsPlaceOf from.now.game) }
+    ensures answered { OnOk result (IsAnswered from.now.game (try_move pairs.now) from.now.place) }
+    ensures unfollowed { IfErr result (IsUnfollowed from.now.game from.now.place pairs.now) }
 {
-    let Some(to) = game.try_move(place, pairs, workspace)? else {
+    let Some(to) = from.try_move(pairs, workspace)? else {
         return Err(QuestionError::Illegal);
     };
     Ok(to)
@@ -54,19 +49,17 @@ pub fn follow(
 
 /// As `lead`, of a move that is known to be legal. Only moves of the keeper are searched for.
 pub fn step(
-    game: &PlayedGame,
-    place: &Place,
+    from: &GamePlace<'_>,
     pairs: &[Pair],
     workspace: &mut Workspace,
 ) -> Result<Place, QuestionError>
-    requires place { IsPlaceOf game.now place.now }
-    requires legal { IsLegal game.now place.now pairs.now }
-    ensures leads { IfOk result (Leads game.now place.now pairs.now) }
-    ensures in_game { IfOk result (IsPlaceOf game.now) }
-    ensures unmoved { IfErr result (IsUnmoved game.now place.now) }
-    ensures unmade { IfErr result (IsUnmade game.now place.now pairs.now) }
+    requires { IsLegal from.now.game from.now.place pairs.now }
+    ensures leads { IfOk result (Leads from.now.game from.now.place pairs.now) }
+    ensures in_game { IfOk result (IsPlaceOf from.now.game) }
+    ensures stopped { IfErr result (IsStopped from.now.game from.now.place pairs.now) }
 {
-    let mut to = workspace.copy_of(place)?;
+    let mut to = workspace.copy_of(from.place())?;
+    let game = from.played();
     game.make_move(&mut to, pairs)?;
     game.settle(&mut to, workspace)?;
     Ok(to)
@@ -82,78 +75,70 @@ pub(crate) fn is_in_memory(moves: &MoveList)
 
 /// The legal moves of a place, at most `max` of them, in a list that `Workspace::keep_moves` takes back.
 pub fn moves_at(
-    game: &PlayedGame,
-    place: &Place,
+    at: &GamePlace<'_>,
     max: usize,
     workspace: &mut Workspace,
 ) -> Result<Gathered, QuestionError>
-    requires place { IsPlaceOf game.now place.now }
-    requires some { 0 < max }
+    requires { 0 < max }
     ensures gathered { IfOk result (λ gathered.
-        IsGathered game.now place.now max gathered.moves gathered.cut) }
-    ensures unlisted { IfErr result (IsUnlisted game.now place.now) }
+        IsGathered at.now.game at.now.place max gathered.moves gathered.cut) }
+    ensures answered { IfOk result (λ gathered.
+        FitsLimits at.now.game gathered.cut list_moves at.now.place) }
+    ensures unlisted { IfErr result (IsUnlisted at.now.game at.now.place) }
 {
-    let mut lent = workspace.copy_of(place)?;
-    let gathered = game.gather_moves(&mut lent, max, workspace)?;
+    let mut lent = workspace.copy_of(at.place())?;
+    let gathered = at.played().gather_moves(&mut lent, max, workspace)?;
     workspace.keep(lent);
     Ok(gathered)
 }
 
 /// How many legal moves a place has.
-pub(crate) fn count_at(
-    game: &PlayedGame,
-    place: &Place,
-    workspace: &mut Workspace,
-) -> Result<u64, QuestionError>
-    requires { IsPlaceOf game.now place.now }
-    ensures count { IfOk result (HasMoves game.now place.now) }
-    ensures unlisted { IfErr result (IsUnlisted game.now place.now) }
+pub(crate) fn count_at(at: &GamePlace<'_>, workspace: &mut Workspace) -> Result<u64, QuestionError>
+    ensures count { IfOk result (HasMoves at.now.game at.now.place) }
+    ensures unlisted { IfErr result (IsUnlisted at.now.game at.now.place) }
 {
-    let gathered = moves_at(game, place, usize::MAX, workspace)?;
+    let gathered = moves_at(at, usize::MAX, workspace)?;
     let count = gathered.moves.len() as u64;
     workspace.keep_moves(gathered.moves);
     Ok(count)
 }
 
 /// How play stands at a place that has so many legal moves.
-pub(crate) fn standing_of(game: &PlayedGame, place: &Place, count: u64) -> PlayStanding
-    requires place { IsPlaceOf game.now place.now }
-    requires count { HasMoves game.now place.now count }
-    ensures { StandsAt game.now place.now (standing_answer result) }
+pub(crate) fn standing_of(at: &GamePlace<'_>, count: u64) -> PlayStanding
+    requires { HasMoves at.now.game at.now.place count }
+    ensures { StandsAt at.now.game at.now.place (standing_answer result) }
 {
     if count == 0 {
         return PlayStanding::Finished {
-            scores: game.scores(place),
+            scores: at.scores(),
         };
     }
     PlayStanding::ToMove {
-        player: place.state.player(),
+        player: at.player(),
     }
 }
 
 /// How play stands at a place.
 pub(crate) fn standing_at(
-    game: &PlayedGame,
-    place: &Place,
+    at: &GamePlace<'_>,
     workspace: &mut Workspace,
 ) -> Result<PlayStanding, QuestionError>
-    requires { IsPlaceOf game.now place.now }
     ensures stands { IfOk result (λ standing.
-        StandsAt game.now place.now (standing_answer standing)) }
-    ensures untold { IfErr result (IsUntold game.now place.now) }
+        StandsAt at.now.game at.now.place (standing_answer standing)) }
+    ensures untold { IfErr result (IsUntold at.now.game at.now.place) }
 {
-    let mut lent = workspace.copy_of(place)?;
-    let found = game.find_move(&mut lent, workspace)?;
+    let mut lent = workspace.copy_of(at.place())?;
+    let found = at.played().find_move(&mut lent, workspace)?;
     workspace.keep(lent);
     match found {
         Some(pairs) => {
             workspace.keep_pairs(pairs);
             Ok(PlayStanding::ToMove {
-                player: place.state.player(),
+                player: at.player(),
             })
         }
         None => Ok(PlayStanding::Finished {
-            scores: game.scores(place),
+            scores: at.scores(),
         }),
     }
 }
@@ -166,14 +151,14 @@ pub(crate) fn pieces_at(place: &Place) -> &[Piece]
 }
 
 /// What the variables hold at a place.
-#[tactic(auto, using(crate::proofs::Naming::take_one))]
-pub(crate) fn values_at(alloc: Global, game: &PlayedGame, place: &Place) -> Result<Vec<u32>, Memory>
-    requires { IsPlaceOf game.now place.now }
-    ensures { IfOk result (λ values. values.items ≡ place.now.state.values) }
+pub(crate) fn values_at(place: &Place) -> &[u32]
+    ensures { result.now ≡ place.now.state.values }
 {
-    let mut values = Vec::new(alloc);
-    for index in 0..game.as_game().variables() {
-        values.push(place.state.value(index as Variable))?;
-    }
-    Ok(values)
+    let LentState {
+        player: _,
+        vertex: _,
+        pieces: _,
+        values,
+    } = place.state.lend();
+    values
 }

@@ -91,7 +91,7 @@ fn count_one(index: usize, moves: u64, tallies: &mut [EndingTally])
 }
 
 /// Counts one more match.
-pub fn count_in(played: Played, tallies: &mut Vec<EndingTally>) -> Result<(), Memory>
+pub(crate) fn count_in(played: Played, tallies: &mut Vec<EndingTally>) -> Result<(), Memory>
     requires few { played.moves ≤ most_played }
     requires small { All IsSmall tallies.old.items }
     ensures { OnOk result (CountsIn (scores_of played.ending) played.moves

@@ -1,8 +1,8 @@
--- What holds of the places of each session, and why one isn't told.
+-- What holds of the places of each session, and why one isn't unpacked.
 use Rattle.std.specs.Prelude.{◌≢◌, ℕ, List}
-use Rattle.rbg_rules.specs.Meaning.{AbstractGame, AbstractPlace, IsPlaceOf, IsHeavyToFind}
+use Rattle.rbg_rules.specs.Meaning.{AbstractGame, AbstractPlace, IsPlaceOf}
 use Rattle.rbg_questions.specs.declared.question_error.QuestionError.{QuestionError}
-use Rattle.rbg_questions.specs.declared.question_error.QuestionError.TheVariants.{NoPlace, Over, Memory}
+use Rattle.rbg_questions.specs.declared.question_error.QuestionError.TheVariants.{NoPlace, Memory}
 use Rattle.rbg_questions.specs.Packing.{packed_text}
 use Rattle.rbg_questions.specs.Sessions.{AreHeard}
 
@@ -15,8 +15,3 @@ pub record IsHeardPlace (game : AbstractGame) (origin place : AbstractPlace) : T
 pub data IsNotUnpacked (game : AbstractGame) (text : List ℕ) : QuestionError → Type 0 where
   no_place : ((place : AbstractPlace) → IsPlaceOf game place → text ≢ packed_text place) → IsNotUnpacked game text NoPlace
   no_bytes : IsNotUnpacked game text Memory
-
--- Why how play stands isn't told.
-pub data IsUntold (game : AbstractGame) (place : AbstractPlace) : QuestionError → Type 0 where
-  heavy : IsHeavyToFind game place → IsUntold game place Over
-  memory : IsUntold game place Memory

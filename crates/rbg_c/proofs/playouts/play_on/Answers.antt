@@ -5,7 +5,7 @@ use Rattle.rbg_c.proofs.ByChance.{all_made, ends_so, gone_none, gone_one, not_ma
 use Rattle.rbg_c.proofs.playouts.play_on.Goals as goal
 
 pub loop-init : goal.loop-init
-loop-init c = gone_none _
+loop-init c = gone_none _ c.requires
 
 pub loop-preserved : goal.loop-preserved
 loop-preserved c = gone_one _ c.loop.state _ _ c.loop.counter _ c.loop.invariant (rw c.in-Some.is at c.in_ok-index.ensures.chosen) c.in_ok-make_found.ensures.made

@@ -7,7 +7,7 @@ use Rattle.rbg_c.proofs.ByChance.{all_told, tells_so, told_none, told_one, not_m
 use Rattle.rbg_c.proofs.playouts.sample_on.Goals as goal
 
 pub loop-init : goal.loop-init
-loop-init c = told_none _ _
+loop-init c = told_none _ _ c.requires
 
 pub loop-preserved : goal.loop-preserved
 loop-preserved c =

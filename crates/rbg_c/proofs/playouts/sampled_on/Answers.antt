@@ -1,11 +1,15 @@
 -- Moves are made on a copy, or one isn't made, or there was no memory.
-use Rattle.std.proofs.Common.{subst}
+use Rattle.std.proofs.Common.{ap, subst}
 use Rattle.rbg_questions.specs.declared.question_error.QuestionError.TheVariants.{Memory}
 use Rattle.rbg_base.proofs.Errors.{passed_on}
 use Rattle.rbg_c.specs.States.{AbstractState}
-use Rattle.rbg_c.specs.Playouts.{TellsOn, no_memory}
+use Rattle.rbg_c.specs.Playouts.{no_memory}
+use Rattle.rbg_c.specs.internal.ByChance.{TellsOn}
 use Rattle.rbg_c.proofs.ByChance.{copy_stuck}
 use Rattle.rbg_c.proofs.playouts.sampled_on.Goals as goal
+
+pub sample_on-requires : goal.sample_on-requires
+sample_on-requires c = ap (λ (s : AbstractState). s.found) c.in_ok-copy.ensures
 
 pub returns-in_err-copy-clause-stuck : goal.returns-in_err-copy-clause-stuck
 returns-in_err-copy-clause-stuck c = passed_on c.from_residual.result Memory _ c.from_residual.ensures.1 no_memory

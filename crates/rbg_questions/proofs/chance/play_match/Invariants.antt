@@ -4,4 +4,4 @@ use Rattle.rbg_questions.proofs.PlayedMatches.{PlayedSo}
 use Rattle.rbg_questions.proofs.chance.play_match.Given as goal
 
 abbrev pub invariant-loop-moves : goal.invariant-loop-moves
-invariant-loop-moves l = IsPlaceOf l.fn.game l.place × PlayedSo l.fn.game l.fn.from l.moves l.place
+invariant-loop-moves l = IsPlaceOf l.fn.from.game l.at × PlayedSo l.fn.from.game l.fn.from.place l.moves l.at

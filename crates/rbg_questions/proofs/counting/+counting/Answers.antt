@@ -2,7 +2,8 @@
 use Rattle.rbg_base.proofs.Common.{rules, ◌≡◌, ◌≢◌, ℕ, List, ◌+◌, ◌-◌, ◌<◌, ◌≤◌, ◌⊎◌, length, suc, take, refl, subst, sym, arith, Some, All, IfSome, slice_get_within, get_or_from_slice_get, IfNone, All-take}
 use Rattle.rbg_rules.specs.Meaning.{AbstractPlace, IsLegal, IsPlaceOf}
 use Rattle.rbg_moves.specs.Settling.{Settles}
-use Rattle.rbg_questions.specs.Counting.{AreCountedAfter, AreLegalMoves}
+use Rattle.rbg_questions.specs.Counting.{AreCountedAfter}
+use Rattle.rbg_questions.specs.Places.{AreLegalMoves}
 use Rattle.rbg_questions.specs.Counting.Sums.{none}
 use Rattle.rbg_questions.specs.declared.extent.Extent.TheVariants.{Moves}
 use Rattle.rbg_questions.specs.declared.error.CountError.TheVariants.{Unsettled}

@@ -1,7 +1,6 @@
 -- One more number.
-use Rattle.rbg_questions.proofs.Mixing.{mixes_told}
+use Rattle.rbg_questions.proofs.Mixing.{mixes_on}
 use Rattle.rbg_questions.proofs.keys.mix_values.Goals as goal
 
-pub loop-index-preserved : goal.loop-index-preserved
-loop-index-preserved c =
-    mixes_told c.args.first c.loop-index.key c.mix-key.result c.args.place.now.state.values c.loop-index.index c.from.result c.value_at.result c.loop-index.invariant c.value_at.ensures c.from.ensures c.mix-key.ensures
+pub loop-value-preserved : goal.loop-value-preserved
+loop-value-preserved c = mixes_on _ _ _ _ _ _ c.loop-value-test.true c.loop-value.invariant c.from.ensures c.mix-key.ensures

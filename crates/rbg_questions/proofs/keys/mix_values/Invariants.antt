@@ -1,7 +1,7 @@
--- The key after the values so far.
+-- The key after the numbers so far.
 use Rattle.std.proofs.Common.{◌≡◌, take}
 use Rattle.rbg_questions.specs.Keys.{mixed_all}
 use Rattle.rbg_questions.proofs.keys.mix_values.Given as goal
 
-abbrev pub invariant-loop-index : goal.invariant-loop-index
-invariant-loop-index l = l.key ≡ mixed_all l.fn.first (take l.index l.place.state.values)
+abbrev pub invariant-loop-value : goal.invariant-loop-value
+invariant-loop-value l = l.key ≡ mixed_all l.fn.first (take l.value-index l.values)

@@ -11,7 +11,7 @@ count_in-requires-clause-few c = few_played _ _ _ _ c.in_ok-played.ensures.ends
 
 pub count_in-requires-clause-small : goal.count_in-requires-clause-small
 count_in-requires-clause-small c =
-    small_tallies c.args.game.now c.args.from.now c.loop.counter c.loop.tallies.items c.loop.invariant (omega (arith, c.loop-test.true, c.requires.count.1))
+    small_tallies c.args.from.now.game c.args.from.now.place c.loop.counter c.loop.tallies.items c.loop.invariant (omega (arith, c.loop-test.true, c.requires.1))
 
 pub returns-in_err-add-clause-unplayed : goal.returns-in_err-add-clause-unplayed
 returns-in_err-add-clause-unplayed c =
@@ -23,4 +23,4 @@ returns-in_err-count_in-clause-unplayed c =
 
 pub loop-preserved : goal.loop-preserved
 loop-preserved c =
-    tallied_more c.args.game.now c.args.from.now c.loop.counter _ _ _ _ c.loop.invariant c.in_ok-played.ensures.ends c.in_ok-count_in.ensures
+    tallied_more c.args.from.now.game c.args.from.now.place c.loop.counter _ _ _ _ c.loop.invariant c.in_ok-played.ensures.ends c.in_ok-count_in.ensures

@@ -4,4 +4,4 @@ use Rattle.rbg_questions.specs.Chance.{AreTallied, counted_by}
 use Rattle.rbg_questions.proofs.playing.play_all.Given as goal
 
 abbrev pub invariant-loop : goal.invariant-loop
-invariant-loop l = AreTallied l.fn.game l.fn.from l.counter (map counted_by l.tallies.items)
+invariant-loop l = AreTallied l.fn.from.game l.fn.from.place l.counter (map counted_by l.tallies.items)

@@ -1,7 +1,7 @@
 -- The lines tell of the matches, or none were played, or there was no memory.
 use Rattle.rbg_questions.specs.declared.question_error.QuestionError.TheVariants.{Memory}
 use Rattle.rbg_base.proofs.Errors.{passed_on}
-use Rattle.rbg_questions.specs.Playing.{no_memory}
+use Rattle.rbg_questions.specs.Playing.{no_summary}
 use Rattle.rbg_questions.proofs.PlayoutBeginning.{few_playouts, tells_so}
 use Rattle.rbg_questions.proofs.playing.playouts.Goals as goal
 
@@ -14,7 +14,7 @@ returns-in_err-tallies-clause-unplayed c =
 
 pub returns-in_err-put_summary-clause-unplayed : goal.returns-in_err-put_summary-clause-unplayed
 returns-in_err-put_summary-clause-unplayed c =
-    passed_on c.from_residual-in_err-put_summary.result Memory _ c.from_residual-in_err-put_summary.ensures.1 no_memory
+    passed_on c.from_residual-in_err-put_summary.result Memory _ c.from_residual-in_err-put_summary.ensures.1 no_summary
 
 pub returns-clause-told : goal.returns-clause-told
 returns-clause-told c =

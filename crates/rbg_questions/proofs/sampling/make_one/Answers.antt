@@ -2,17 +2,19 @@
 use Rattle.std.proofs.Common.{◌∙◌, false, sym, subst, arith}
 use Rattle.rbg_rules.specs.Meaning.{AbstractPlace, IsLegal, Legal}
 use Rattle.rbg_questions.specs.declared.question_error.QuestionError.TheVariants.{Memory}
-use Rattle.rbg_questions.specs.Chance.{no_memory}
+use Rattle.rbg_questions.specs.Chance.{stopped_at, unlisted}
+use Rattle.rbg_questions.specs.Places.{no_memory}
 use Rattle.rbg_questions.specs.internal.Searching.{TellsMove, rests}
 use Rattle.rbg_questions.specs.internal.Refusing.{refusal_of_over, refusal_of_unsettled}
 use Rattle.rbg_base.proofs.Errors.{passed_on}
-use Rattle.rbg_questions.proofs.PlayedMatches.{legal_at, list_unmoved, nothing_listed, settle_unmoved}
+use Rattle.rbg_questions.proofs.Faults.{given_up, stopped_after}
+use Rattle.rbg_questions.proofs.PlayedMatches.{legal_at, nothing_listed}
 use Rattle.rbg_questions.proofs.Sampled.{tells_moved}
 use Rattle.rbg_questions.proofs.sampling.make_one.Goals as goal
 
 pub returns-in_err-gathered-clause-unmoved : goal.returns-in_err-gathered-clause-unmoved
 returns-in_err-gathered-clause-unmoved c =
-    passed_on c.from_residual.result (refusal_of_over c.in_err-gathered.field-0.0) _ c.from_residual.ensures.1 (list_unmoved _ _ _ c.in_err-gathered.field-0.0 c.in_err-gathered.ensures.lists.given_up.heavy)
+    passed_on c.from_residual.result (refusal_of_over c.in_err-gathered.field-0.0) _ c.from_residual.ensures.1 (unlisted (given_up _ _ _ _ c.in_err-gathered.field-0.0 c.in_err-gathered.ensures.lists.given_up.heavy))
 
 pub returns-then-count-eq0-clause-moves : goal.returns-then-count-eq0-clause-moves
 returns-then-count-eq0-clause-moves c =
@@ -25,16 +27,16 @@ make_move-requires-clause-legal c =
 
 pub returns-in_err-make_move-clause-unmoved : goal.returns-in_err-make_move-clause-unmoved
 returns-in_err-make_move-clause-unmoved c =
-    passed_on c.from_residual-in_err-make_move.result Memory _ c.from_residual-in_err-make_move.ensures.1 no_memory
+    passed_on c.from_residual-in_err-make_move.result Memory _ c.from_residual-in_err-make_move.ensures.1 (unlisted no_memory)
 
 pub returns-in_err-put_move_line-clause-unmoved : goal.returns-in_err-put_move_line-clause-unmoved
 returns-in_err-put_move_line-clause-unmoved c =
-    passed_on c.from_residual-in_err-put_move_line.result Memory _ c.from_residual-in_err-put_move_line.ensures.1 no_memory
+    passed_on c.from_residual-in_err-put_move_line.result Memory _ c.from_residual-in_err-put_move_line.ensures.1 (unlisted no_memory)
 
 pub returns-in_err-settle-clause-unmoved : goal.returns-in_err-settle-clause-unmoved
 returns-in_err-settle-clause-unmoved c =
     passed_on c.from_residual-in_err-settle.result (refusal_of_unsettled c.in_err-settle.field-0.0) _ c.from_residual-in_err-settle.ensures.1
-    (settle_unmoved _ _ _ _ _ c.in_err-settle.field-0.0 (subst (λ (p : AbstractPlace). Legal c.args.game.now p c.get-pairs.result.now c.make_move.new.place) c.gather_moves.ensures.kept c.in_ok-make_move.ensures.to) c.in_err-settle.ensures.heavy c.in_err-settle.ensures.endless)
+    (stopped_at (stopped_after _ _ _ _ _ c.in_err-settle.field-0.0 (subst (λ (p : AbstractPlace). Legal c.args.game.now p c.get-pairs.result.now c.make_move.new.place) c.gather_moves.ensures.kept c.in_ok-make_move.ensures.to) c.in_err-settle.ensures.heavy c.in_err-settle.ensures.endless))
 
 pub returns-clause-moves : goal.returns-clause-moves
 returns-clause-moves c =

@@ -1,7 +1,7 @@
 -- The state stands where the rules begin.
 use Rattle.std.proofs.Common.{ap, ◌∙◌}
 use Rattle.rbg_rules.specs.Meaning.{AbstractGame}
-use Rattle.rbg_questions.specs.Sessions.{beginning_of}
+use Rattle.rbg_moves.specs.Starting.{start_place}
 use Rattle.rbg_c.specs.States.{beginning_at}
 use Rattle.rbg_c.proofs.Places.{begun_state, begun_is}
 use Rattle.rbg_c.proofs.state.State.begin.Goals as goal
@@ -13,4 +13,4 @@ invariant_of-result c =
 pub returns : goal.returns
 returns c =
     begun_is _ _ _ _ _ _ c.in_ok-game-2.ensures c.in_ok-origin.ensures c.in_ok-start.ensures.start c.new-2.ensures.items c.in_ok-place.ensures.start
-    ∙ ap (λ (g : AbstractGame). beginning_at g (beginning_of g) (beginning_of g)) c.in_ok-game.ensures
+    ∙ ap (λ (g : AbstractGame). beginning_at g (start_place g) (start_place g)) c.in_ok-game.ensures

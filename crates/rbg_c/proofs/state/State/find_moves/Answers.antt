@@ -5,9 +5,9 @@ use Rattle.rbg_c.proofs.state.State.find_moves.Goals as goal
 
 pub invariant_of-self-2 : goal.invariant_of-self-2
 invariant_of-self-2 c =
-    found_state _ _ _ _ _ _ c.self.invariant c.deref.ensures c.in_ok-gathered.ensures.gathered c.len-count.ensures.count c.len-count.ensures.small (omega arith)
+    found_state _ _ _ _ _ _ c.self.invariant c.deref.ensures (rw c.new-here.ensures at c.in_ok-gathered.ensures.gathered) c.len-count.ensures.count c.len-count.ensures.small (omega arith)
 
 pub returns-clause-found : goal.returns-clause-found
 returns-clause-found c =
     rw (← c.self.view_is)
-    (finds_moves _ _ _ _ _ _ c.self.invariant c.deref.ensures c.in_ok-gathered.ensures.gathered c.len-count.ensures.count c.len-count.ensures.small (omega arith))
+    (finds_moves _ _ _ _ _ _ c.self.invariant c.deref.ensures (rw c.new-here.ensures at c.in_ok-gathered.ensures.gathered) c.len-count.ensures.count c.len-count.ensures.small (omega arith))

@@ -1,7 +1,7 @@
 -- The keeper's first moves have led to the only place.
 use Rattle.std.proofs.Common.{ap, ◌∙◌}
 use Rattle.rbg_rules.specs.Meaning.{AbstractGame}
-use Rattle.rbg_questions.specs.Sessions.{beginning_of}
+use Rattle.rbg_moves.specs.Starting.{start_place}
 use Rattle.rbg_c.specs.States.{beginning_at}
 use Rattle.rbg_c.proofs.Places.{first_state, first_is}
 use Rattle.rbg_c.proofs.state.State.open.Goals as goal
@@ -13,4 +13,4 @@ invariant_of-result c =
 pub returns-clause-game : goal.returns-clause-game
 returns-clause-game c =
     first_is _ _ _ _ _ _ c.in_ok-game-2.ensures c.in_ok-origin.ensures c.in_ok-start.ensures.start c.new-2.ensures.items
-    ∙ ap (λ (g : AbstractGame). beginning_at g (beginning_of g) c.in_ok-place.place) c.in_ok-game.ensures
+    ∙ ap (λ (g : AbstractGame). beginning_at g (start_place g) c.in_ok-place.place) c.in_ok-game.ensures
