@@ -16,49 +16,7 @@ use Rattle.rbg_c.specs.Listing.{numbers_of_move, numbers_of_moves}
 use Rattle.rbg_c.specs.Opening.{Keeps, kept, lost}
 use Rattle.rbg_c.specs.Results.{ok}
 use Rattle.rbg_c.specs.Playouts.{HandsOut, handed, unkept, IsNotPlayedOn, stuck, Passes, none_made, one_made, PlaysCopy, PlaysOn, Samples, sampled}
-use Rattle.rbg_c.specs.internal.ByChance.{Chooses, chosen, none_left, IsPlayedOn, TellsOn}
-
-nothing_there : {X : Type 0} (xs : List X) (x : X) → Contains xs x → length xs ≡ 0 → ⊥
-nothing_there [] x h same = omega (arith, h.1)
-nothing_there (y ∷ ys) x h same = omega (arith, same)
-
--- play is finished where no move was found
-over_here : (old new : AbstractState) → FindsMoves old 0 new → Finished old.game old.place
-over_here old new finds = record { no_move = λ pairs to legal. nothing_there finds.moves pairs (finds.are.whole pairs (to, legal)) (sym finds.many) }
-
--- the move at an index among those that were found is told
-pub found_told : {E : Type 0} (result : Result (Unit {0}) E) (state : AbstractState) (index : ℕ) (moves : List (List (ℕ × ℕ))) (pairs : List (ℕ × ℕ)) (before after : List ℕ) → state.found ≡ Some moves → slice_get moves index ≡ Some pairs → OnOk result (after ≡ before ++ numbers_of_move pairs) → OnOk result ((others : List (ℕ × ℕ)) → IsFoundAt state index others → after ≡ before ++ numbers_of_move others)
-found_told (Ok u) state index moves pairs before after is there written = λ others found.
-    let both : Some found.moves ≡ Some moves = sym found.found ∙ is in
-    let one : found.moves ≡ moves = cc in
-    let two : Some others ≡ Some pairs = sym found.there ∙ (ap (λ (ms : List (List (ℕ × ℕ))). slice_get ms index) one ∙ there) in
-    let same : others ≡ pairs = cc in
-    written ∙ ap (λ (ps : List (ℕ × ℕ)). before ++ numbers_of_move ps) (sym same)
-found_told (Err e) state index moves pairs before after is there written = tt
-
--- there is none where none were found
-pub none_found : (state : AbstractState) (index : ℕ) (pairs : List (ℕ × ℕ)) → state.found ≡ None → IsFoundAt state index pairs → ⊥
-none_found state index pairs none found =
-    let both : ◌≡◌ {A = Option (List (List (ℕ × ℕ)))} None (Some found.moves) = sym none ∙ found.found in
-    absurd cc
-
--- nor beyond the last one
-pub none_beyond : (state : AbstractState) (index : ℕ) (moves : List (List (ℕ × ℕ))) (pairs : List (ℕ × ℕ)) → state.found ≡ Some moves → length moves ≤ index → IsFoundAt state index pairs → ⊥
-none_beyond state index moves pairs is beyond found =
-    let both : Some found.moves ≡ Some moves = sym found.found ∙ is in
-    let one : found.moves ≡ moves = cc in
-    omega (arith, slice_get_within found.moves index pairs found.there, ap (λ (ms : List (List (ℕ × ℕ))). length ms) one, beyond)
-
--- one of the moves that were found isn't made
-pub stuck_here : (old mid : AbstractState) (count index : ℕ) (refusal : QuestionError) → FindsMoves old count mid → index < count → IsUnmadeAt mid index refusal → IsUnmoved mid.game mid.place refusal
-stuck_here old mid count index _ finds within (not_asked none) =
-    let both : ◌≡◌ {A = Option (List (List (ℕ × ℕ)))} None (Some finds.moves) = sym none ∙ ap (λ (s : AbstractState). s.found) finds.is in
-    absurd cc
-stuck_here old mid count index _ finds within (too_few {moves} found few) =
-    let both : Some moves ≡ Some finds.moves = sym found ∙ ap (λ (s : AbstractState). s.found) finds.is in
-    let one : moves ≡ finds.moves = cc in
-    absurd (omega (arith, within, few, finds.many, ap (λ (ms : List (List (ℕ × ℕ))). length ms) one))
-stuck_here old mid count index refusal finds within (stopped_there found there why) = stopped_at why
+use Rattle.rbg_c.specs.internal.ByChance.{PlaysOne, one_made as made_one, none_left, IsPlayedOn, TellsOn}
 
 -- These moves were made by chance so far.
 pub record Gone (old : AbstractState) (moves : List (List (ℕ × ℕ))) (now : AbstractState) : Type 0 where
@@ -89,12 +47,6 @@ gone_none old none = record { moves = []; gone = gone_nowhere old; many = refl; 
 pub told_none : (old : AbstractState) (numbers : List ℕ) → old.found ≡ None → ToldOn old 0 old numbers numbers
 told_none old numbers none = record { on = gone_none old none; told = sym (append-nil numbers) }
 
--- the same where moves were found
-found_there : (old now mid : AbstractState) (count : ℕ) (moves : List (List (ℕ × ℕ))) → Gone old moves now → FindsMoves now count mid → Gone old moves mid
-found_there old now mid count moves gone finds =
-    subst (λ (s : AbstractState). Gone old moves s) (sym finds.is)
-    (record { game = gone.game; origin = gone.origin; passed = gone.passed; passes = gone.passes; before = gone.before })
-
 -- and after one more
 pub one_further : (old mid new : AbstractState) (moves : List (List (ℕ × ℕ))) (pairs : List (ℕ × ℕ)) → Gone old moves mid → Makes mid pairs new → Gone old (moves ++ pairs ∷ []) new
 one_further old mid new moves pairs gone makes = record {
@@ -108,16 +60,17 @@ one_further old mid new moves pairs gone makes = record {
 pub one_more_made : (moves : List (List (ℕ × ℕ))) (pairs : List (ℕ × ℕ)) (made : ℕ) → length moves ≡ made → length (moves ++ pairs ∷ []) ≡ made + 1
 one_more_made moves pairs made many = length-append moves (pairs ∷ []) ∙ ap (λ n. n + 1) many
 
-pub chosen_there : (old now mid : AbstractState) (index : ℕ) (moves : List (List (ℕ × ℕ))) → Gone old moves now → Chooses now (Some index) mid → Gone old moves mid
-chosen_there old now mid index moves gone (chosen {count} finds within) = found_there old now mid count moves gone finds
-
-abbrev pub gone_one : (old now mid new : AbstractState) (made index : ℕ) → GoneOn old made now → Chooses now (Some index) mid → MakesFound mid index new → GoneOn old (made + 1) new
-gone_one old now mid new made index on chooses makes = record {
-  moves = on.moves ++ makes.pairs ∷ [];
-  gone = one_further old mid new on.moves makes.pairs (chosen_there old now mid index on.moves on.gone chooses) makes.makes;
-  many = one_more_made on.moves makes.pairs made on.many;
-  found = ap (λ (s : AbstractState). s.found) makes.makes.is;
+pub gone_one : (old now new : AbstractState) (made : ℕ) (pairs : List (ℕ × ℕ)) → GoneOn old made now → Makes now pairs new → GoneOn old (made + 1) new
+gone_one old now new made pairs on makes = record {
+  moves = on.moves ++ pairs ∷ [];
+  gone = one_further old now new on.moves pairs on.gone makes;
+  many = one_more_made on.moves pairs made on.many;
+  found = ap (λ (s : AbstractState). s.found) makes.is;
 }
+
+-- one more, whichever it is
+pub played_one : (old now new : AbstractState) (made : ℕ) (before after : List ℕ) → GoneOn old made now → PlaysOne now true new before after → GoneOn old (made + 1) new
+played_one old now new made before after on (made_one {pairs} makes told) = gone_one old now new made pairs on makes
 
 numbers_more : (first mid new : List ℕ) (moves : List (List (ℕ × ℕ))) (pairs : List (ℕ × ℕ)) → mid ≡ first ++ numbers_of_moves moves → new ≡ mid ++ numbers_of_move pairs → new ≡ first ++ numbers_of_moves (moves ++ pairs ∷ [])
 numbers_more first mid new moves pairs so_far written =
@@ -125,10 +78,10 @@ numbers_more first mid new moves pairs so_far written =
     flat_map-append numbers_of_move moves (pairs ∷ []) ∙ ap (λ t. numbers_of_moves moves ++ t) (append-nil (numbers_of_move pairs)) in
     written ∙ (ap (λ m. m ++ numbers_of_move pairs) so_far ∙ (append_assoc first (numbers_of_moves moves) (numbers_of_move pairs) ∙ ap (λ t. first ++ t) (sym all)))
 
-pub told_one : (old now mid new : AbstractState) (made index : ℕ) (first before after : List ℕ) → ToldOn old made now first before → Chooses now (Some index) mid → MakesFound mid index new → ((pairs : List (ℕ × ℕ)) → IsFoundAt mid index pairs → after ≡ before ++ numbers_of_move pairs) → ToldOn old (made + 1) new first after
-told_one old now mid new made index first before after so chooses makes written = record {
-  on = gone_one old now mid new made index so.on chooses makes;
-  told = numbers_more first before after so.on.moves makes.pairs so.told (written makes.pairs (record { moves = makes.moves; found = makes.found; there = makes.there }));
+pub told_one : (old now new : AbstractState) (made : ℕ) (first before after : List ℕ) → ToldOn old made now first before → PlaysOne now true new before after → ToldOn old (made + 1) new first after
+told_one old now new made first before after so (made_one {pairs} makes written) = record {
+  on = gone_one old now new made pairs so.on makes;
+  told = numbers_more first before after so.on.moves pairs so.told written;
 }
 
 -- moves that pass places are played
@@ -141,8 +94,8 @@ as_many game from _ _ _ none_made = refl
 as_many game from _ _ to (one_made {moves} {passed} {middle} {pairs = pairs} passes leads) =
     length-append passed (middle ∷ []) ∙ (ap (λ n. n + 1) (as_many game from moves passed middle passes) ∙ sym (length-append moves (pairs ∷ [])))
 
-plays_so : (old now : AbstractState) (most : ℕ) (moves : List (List (ℕ × ℕ))) → Gone old moves now → length moves ≤ most → (length moves < most → Finished old.game now.place) → (length moves < most → now.found ≡ Some []) → (length moves ≡ most → now.found ≡ None) → PlaysOn old most moves now
-plays_so old now most moves gone few whole ended going = record {
+plays_so : (old now : AbstractState) (most : ℕ) (moves : List (List (ℕ × ℕ))) → Gone old moves now → length moves ≤ most → (length moves < most → Finished old.game now.place) → now.found ≡ None → PlaysOn old most moves now
+plays_so old now most moves gone few whole none = record {
   game = gone.game;
   origin = gone.origin;
   sampled = record { plays = all_played old.game old.place moves gone.passed now.place gone.passes; few = few; whole = whole };
@@ -150,37 +103,26 @@ plays_so old now most moves gone few whole ended going = record {
   passes = gone.passes;
   before = gone.before;
   made = ap (λ (ps : List AbstractPlace). length ps) gone.before ∙ (length-append old.before gone.passed ∙ ap (λ n. length old.before + n) (as_many old.game old.place moves gone.passed now.place gone.passes));
-  ended = ended;
-  going = going;
+  none_found = none;
 }
 
 -- the moves so far, where there is no other
-over_there : (old now new : AbstractState) (moves : List (List (ℕ × ℕ))) → Gone old moves now → FindsMoves now 0 new → Finished old.game new.place
-over_there old now new moves gone finds =
-    subst (λ (p : AbstractPlace). Finished old.game p) (sym (ap (λ (s : AbstractState). s.place) finds.is)) (subst (λ (g : AbstractGame). Finished g now.place) gone.game (over_here now new finds))
+ends_there : (old now new : AbstractState) (most made : ℕ) (before after : List ℕ) → (on : GoneOn old made now) → PlaysOne now false new before after → made < most → PlaysOn old most on.moves new
+ends_there old now _ most made before _ on (none_left over) few =
+    plays_so old now most on.moves on.gone (omega (arith, few, on.many)) (λ less. subst (λ (g : AbstractGame). Finished g now.place) on.gone.game over) on.found
 
-empty_list : {X : Type 0} (xs : List X) → 0 ≡ length xs → xs ≡ []
-empty_list [] none = refl
-empty_list (x ∷ xs) none = absurd (omega (arith, none))
+pub ends_so : (old now new : AbstractState) (most made : ℕ) (before after : List ℕ) → GoneOn old made now → PlaysOne now false new before after → made < most → IsPlayedOn old most new
+ends_so old now new most made before after on none few = record { moves = on.moves; plays = ends_there old now new most made before after on none few }
 
-none_found_there : (now new : AbstractState) → FindsMoves now 0 new → new.found ≡ Some []
-none_found_there now new finds =
-    ap (λ (s : AbstractState). s.found) finds.is ∙ ap (λ (ms : List (List (ℕ × ℕ))). Some ms) (empty_list finds.moves finds.many)
+none_told : (now new : AbstractState) (before after : List ℕ) → PlaysOne now false new before after → after ≡ before
+none_told now _ before _ (none_left over) = refl
 
-ends_there : (old now new : AbstractState) (most made : ℕ) → (on : GoneOn old made now) → Chooses now None new → made < most → PlaysOn old most on.moves new
-ends_there old now new most made on (none_left finds) few =
-    plays_so old new most on.moves (found_there old now new 0 on.moves on.gone finds) (omega (arith, few, on.many)) (λ less. over_there old now new on.moves on.gone finds)
-    (λ less. none_found_there now new finds) (λ all. absurd (omega (arith, few, on.many, all)))
-
-pub ends_so : (old now new : AbstractState) (most made : ℕ) → GoneOn old made now → Chooses now None new → made < most → IsPlayedOn old most new
-ends_so old now new most made on none few = record { moves = on.moves; plays = ends_there old now new most made on none few }
-
-pub tells_so : (old now new : AbstractState) (most made : ℕ) (first numbers : List ℕ) → ToldOn old made now first numbers → Chooses now None new → made < most → TellsOn old most new first numbers
-tells_so old now new most made first numbers so none few = record { moves = so.on.moves; plays = ends_there old now new most made so.on none few; told = so.told }
+pub tells_so : (old now new : AbstractState) (most made : ℕ) (first before after : List ℕ) → ToldOn old made now first before → PlaysOne now false new before after → made < most → TellsOn old most new first after
+tells_so old now new most made first before after so none few = record { moves = so.on.moves; plays = ends_there old now new most made before after so.on none few; told = none_told now new before after none ∙ so.told }
 
 -- as many moves as were wanted
 made_there : (old now : AbstractState) (most made : ℕ) → (on : GoneOn old made now) → made ≡ most → PlaysOn old most on.moves now
-made_there old now most made on same = plays_so old now most on.moves on.gone (omega (arith, on.many, same)) (λ less. absurd (omega (arith, on.many, same, less))) (λ less. absurd (omega (arith, on.many, same, less))) (λ all. on.found)
+made_there old now most made on same = plays_so old now most on.moves on.gone (omega (arith, on.many, same)) (λ less. absurd (omega (arith, on.many, same, less))) on.found
 
 pub all_made : (old now : AbstractState) (most made : ℕ) → GoneOn old made now → made ≡ most → IsPlayedOn old most now
 all_made old now most made on same = record { moves = on.moves; plays = made_there old now most made on same }
@@ -195,11 +137,6 @@ stuck_so old now most made moves refusal gone many few unmoved =
 
 pub not_on : (old now : AbstractState) (most made : ℕ) (refusal : QuestionError) → GoneOn old made now → made < most → IsUnmoved now.game now.place refusal → IsNotPlayedOn old.game old.place most refusal
 not_on old now most made refusal on few unmoved = stuck_so old now most made on.moves refusal on.gone on.many few unmoved
-
--- one of the moves that were found after them isn't made
-pub not_made : (old now mid : AbstractState) (most made index : ℕ) (refusal : QuestionError) → GoneOn old made now → made < most → Chooses now (Some index) mid → IsUnmadeAt mid index refusal → IsNotPlayedOn old.game old.place most refusal
-not_made old now mid most made index refusal on few (chosen {count} finds within) why =
-    stuck_so old mid most made on.moves refusal (found_there old now mid count on.moves on.gone finds) on.many few (stuck_here now mid count index refusal finds within why)
 
 -- there was no memory to tell of matches
 pub unplayed_memory : (game : AbstractGame) (from : AbstractPlace) → IsUnplayed game from Memory

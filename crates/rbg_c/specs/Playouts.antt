@@ -61,8 +61,7 @@ pub data Passes (game : AbstractGame) (from : AbstractPlace)
         Passes game from (moves ++ pairs ∷ []) (passed ++ middle ∷ []) to
 
 -- These moves by chance lead from a state to another: at most `most`, and fewer only where play is finished. They can be
--- undone: the places that they passed stand after those before. Where they are fewer, the legal moves were found to be none;
--- where they are `most`, no moves are found yet.
+-- undone: the places that they passed stand after those before. No moves are found yet.
 pub record PlaysOn (old : AbstractState) (most : ℕ) (moves : List (List (ℕ × ℕ))) (new : AbstractState) : Type 0 where
   pub game : new.game ≡ old.game
   pub origin : new.origin ≡ old.origin
@@ -71,8 +70,7 @@ pub record PlaysOn (old : AbstractState) (most : ℕ) (moves : List (List (ℕ �
   pub passes : Passes old.game old.place moves passed new.place
   pub before : new.before ≡ old.before ++ passed
   pub made : length new.before ≡ length old.before + length moves
-  pub ended : length moves < most → new.found ≡ Some []
-  pub going : length moves ≡ most → new.found ≡ None
+  pub none_found : new.found ≡ None
 
 -- Why `most` moves by chance aren't made.
 --   stuck: fewer moves lead to a place where the next one isn't made.

@@ -1,16 +1,14 @@
 //! Moves and matches by chance from a state.
-ghost use Rattle.std.specs.Prelude.{◌≡◌, ◌<◌, ◌++◌, ℕ, List, None, IfErr, IfOk, OnErr, OnOk, map};
+ghost use Rattle.std.specs.Prelude.{◌≡◌, ◌++◌, None, IfErr, IfOk, OnOk, map};
 ghost use Rattle.std.specs.List.{flat_map};
-ghost use Rattle.rbg_questions.specs.Chance.{IsUnmoved, IsUnplayed, counted_by};
+ghost use Rattle.rbg_questions.specs.Chance.{IsUnplayed, counted_by};
 ghost use Rattle.rbg_questions.specs.Limits.{IsCount};
-ghost use Rattle.rbg_c.specs.Listing.{numbers_of_move};
 ghost use Rattle.rbg_c.specs.Playouts.{ArePlayed, IsNotPlayedOn, row_of};
-ghost use Rattle.rbg_c.specs.States.{IsFoundAt, copy_of};
-ghost use Rattle.rbg_c.specs.internal.ByChance.{Chooses, IsPlayedOn, TellsOn};
+ghost use Rattle.rbg_c.specs.States.{copy_of};
+ghost use Rattle.rbg_c.specs.internal.ByChance.{IsPlayedOn, TellsOn};
 
-use crate::listing::push_move;
 use crate::state::State;
-use rand_core::{Rng, SeedableRng};
+use rand_core::SeedableRng;
 use rand_pcg::Pcg32;
 use rbg_base::Memory;
 use rbg_questions::{Draw, Ending, EndingTally, QuestionError};
@@ -71,9 +69,9 @@ pub(crate) fn played_on(state: &State, draw: Draw) -> Result<State, QuestionErro
 
 /// As `played_on`. The numbers of the moves are appended, as `rbg_moves` has them.
 ///
-/// One seed gives both the same moves. This isn't proved, since no contract says in which order the moves are found that
-/// are chosen by their index, nor which one the keeper makes of several. It is so since both choose by `choose_one`, each
-/// time from what the same search finds. clients/c/trial.c tries it: how many moves there are, and where they lead.
+/// One seed gives both the same moves. This isn't proved, since no contract says which move chance chooses, nor which one the
+/// keeper makes of several. It is so since both make their moves by `State::play_one`. clients/c/trial.c tries it: how many
+/// moves there are, and where they lead.
 pub(crate) fn sampled_on(
     state: &State,
     draw: Draw,
@@ -95,11 +93,12 @@ fn play_on(state: &mut State, draw: Draw) -> Result<(), QuestionError>
     ensures stuck { IfErr result (IsNotPlayedOn state.old.game state.old.place draw.count) }
 {
     let mut chance = Pcg32::seed_from_u64(draw.seed);
+    let mut numbers = Vec::new(state.allocator());
     for _ in 0..draw.count {
-        let Some(index) = choose_one(state, &mut chance)? else {
+        numbers.clear();
+        if !state.play_one(&mut chance, &mut numbers)? {
             return Ok(());
-        };
-        state.make_found(index)?;
+        }
     }
     Ok(())
 }
@@ -113,47 +112,9 @@ fn sample_on(state: &mut State, draw: Draw, numbers: &mut Vec<u32>) -> Result<()
 {
     let mut chance = Pcg32::seed_from_u64(draw.seed);
     for _ in 0..draw.count {
-        let Some(index) = choose_one(state, &mut chance)? else {
+        if !state.play_one(&mut chance, numbers)? {
             return Ok(());
-        };
-        push_found(state, index, numbers)?;
-        state.make_found(index)?;
+        }
     }
     Ok(())
-}
-
-/// Finds the legal moves, and chooses one of them by chance: its index is the remainder of the next number of 64 bits by
-/// how many they are. None where there is no legal one, and then no number is taken.
-fn choose_one(state: &mut State, chance: &mut Pcg32) -> Result<Option<usize>, QuestionError>
-    ensures chosen { IfOk result (λ index. Chooses state.old index state.new) }
-    ensures stuck { IfErr result (IsUnmoved state.old.game state.old.place) }
-{
-    let count = state.find_moves()?;
-    if count == 0 {
-        return Ok(None);
-    }
-    Ok(Some(choose(count, chance)))
-}
-
-/// Appends the numbers of the move that stands at an index among those that were found.
-fn push_found(state: &State, index: usize, numbers: &mut Vec<u32>) -> Result<(), Memory>
-    ensures { OnOk result ((pairs : List (ℕ × ℕ))
-        → IsFoundAt state.now index pairs
-        → numbers.new.items ≡ numbers.old.items ++ numbers_of_move pairs) }
-{
-    let Some(moves) = state.moves() else {
-        return Ok(());
-    };
-    if moves.len() <= index {
-        return Ok(());
-    }
-    push_move(moves.get(index), numbers)
-}
-
-/// A number below another one, by chance.
-fn choose(count: usize, chance: &mut Pcg32) -> usize
-    requires { 0 < count }
-    ensures { result < count }
-{
-    (chance.next_u64() % count as u64) as usize
 }

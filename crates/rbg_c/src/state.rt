@@ -4,7 +4,7 @@ ghost use Rattle.std.specs.Option.{MatchOption};
 ghost use Rattle.rbg_rules.specs.Meaning.{AbstractPlace, IsGame, IsPlaceOf, most_players};
 ghost use Rattle.rbg_moves.specs.Settling.{IsEndless, MeetsHeavy, Settles};
 ghost use Rattle.rbg_questions.specs.declared.question_error.QuestionError.TheVariants.{Keeper, Over};
-ghost use Rattle.rbg_questions.specs.Chance.{AreTallied, IsUnplayed, counted_by};
+ghost use Rattle.rbg_questions.specs.Chance.{AreTallied, IsUnmoved, IsUnplayed, counted_by};
 ghost use Rattle.rbg_questions.specs.Keys.{key_of};
 ghost use Rattle.rbg_questions.specs.Limits.{IsCount};
 ghost use Rattle.rbg_questions.specs.Packing.{packed_of};
@@ -13,8 +13,11 @@ ghost use Rattle.rbg_questions.specs.Sessions.{HasLedTo};
 ghost use Rattle.rbg_moves.specs.Starting.{start_place};
 ghost use Rattle.rbg_c.specs.States.{FindsMoves, Hears, Makes, MakesFound, Undoes, Unpacks, beginning_at, copy_of};
 ghost use Rattle.rbg_c.specs.Stepping.{IsUnmadeAt};
+ghost use Rattle.rbg_c.specs.internal.ByChance.{PlaysOne};
 
+use crate::listing::push_move;
 use arrayvec::ArrayVec;
+use rand_pcg::Pcg32;
 use rbg_base::{Memory, Move, MoveList, Piece, Player, Variable};
 use rbg_moves::{GamePlace, Place, PlayedGame, Workspace};
 use rbg_questions::{
@@ -107,7 +110,8 @@ impl State {
             state ≡ beginning_at game (start_place game) state.place) }
         ensures place { IfOk result (λ state. Settles game (start_place game) state.place) }
     {
-        let game = PlayedGame::new(alloc, game)?;
+        let mut game = PlayedGame::new(alloc, game)?;
+        game.weigh()?;
         let mut workspace = Workspace::new(alloc);
         let place = first_place(&game, &mut workspace)?;
         let origin = shared_place(alloc, game.start()?)?;
@@ -128,7 +132,8 @@ impl State {
         ensures { IfOk result (λ state.
             state ≡ beginning_at game (start_place game) (start_place game)) }
     {
-        let game = PlayedGame::new(alloc, game)?;
+        let mut game = PlayedGame::new(alloc, game)?;
+        game.weigh()?;
         let place = game.start()?;
         let origin = shared_place(alloc, game.start()?)?;
         let game = shared(alloc, game)?;
@@ -314,6 +319,38 @@ impl State {
         hand_on(&mut self.found, &mut self.workspace);
         self.found = None;
         Ok(())
+    }
+
+    /// Makes a legal move by chance, each with the same chances, and the keeper's moves after it, and appends the numbers of
+    /// the move. False where play is finished. After an error some numbers may have been appended.
+    pub fn play_one(
+        &mut self,
+        chance: &mut Pcg32,
+        numbers: &mut Vec<u32>,
+    ) -> Result<bool, QuestionError>
+        ensures plays { IfOk result (λ made.
+            PlaysOne self.old made self.new numbers.old.items numbers.new.items) }
+        ensures stuck { IfErr result (IsUnmoved self.old.game self.old.place) }
+    {
+        let game = self.game.deref();
+        let mut to = self.workspace.copy_of(&self.place)?;
+        let Some(_choice) = game.choose_move(&mut to, chance, &mut self.workspace)? else {
+            self.workspace.keep(to);
+            return Ok(false);
+        };
+        game.make_move(&mut to, self.workspace.chosen())?;
+        push_move(self.workspace.chosen(), numbers)?;
+        game.settle(&mut to, &mut self.workspace)?;
+        self.before.reserve(1)?;
+        self.before.push_reserved(replace(&mut self.place, to));
+        hand_on(&mut self.found, &mut self.workspace);
+        self.found = None;
+        Ok(true)
+    }
+
+    /// Where memory is taken.
+    pub fn allocator(&self) -> Global {
+        self.alloc
     }
 
     /// Makes the move of these pairs, if it is legal, and the keeper's moves after it.

@@ -1,5 +1,5 @@
 //! Matches that are played by chance.
-ghost use Rattle.std.specs.Prelude.{◌<◌, IfErr, IfOk, OnOk, map};
+ghost use Rattle.std.specs.Prelude.{IfErr, IfOk, OnOk, map};
 ghost use Rattle.rbg_rules.specs.Meaning.{IsPlaceOf};
 ghost use Rattle.rbg_questions.specs.Chance.{AreTallied, IsUnmoved, IsUnplayed, counted_by, scores_of};
 ghost use Rattle.rbg_questions.specs.Limits.{IsCount};
@@ -9,7 +9,7 @@ use crate::chosen::Chosen;
 use crate::draw::Draw;
 use crate::question_error::QuestionError;
 use crate::tally::{Ending, EndingTally, Played, count_in};
-use rand_core::{Rng, SeedableRng};
+use rand_core::SeedableRng;
 use rand_pcg::Pcg32;
 use rbg_moves::{GamePlace, Place, PlayedGame, Workspace};
 use std::alloc::Global;
@@ -99,30 +99,11 @@ fn move_on(
     ensures in_game { OnOk result (IsPlaceOf game.now place.new) }
     ensures unmoved { IfErr result (IsUnmoved game.now place.old) }
 {
-    if game.draw_move(place, chance, workspace)? {
-        game.make_move(place, workspace.drawn())?;
-        chosen.add(1, workspace.drawn())?;
-        game.settle(place, workspace)?;
-        return Ok(true);
-    }
-    let gathered = game.gather_moves(place, usize::MAX, workspace)?;
-    let moves = gathered.moves;
-    let count = moves.len();
-    if count == 0 {
+    let Some(choice) = game.choose_move(place, chance, workspace)? else {
         return Ok(false);
-    }
-    let index = choose(count, chance);
-    game.make_move(place, moves.get(index))?;
-    chosen.add(count, moves.get(index))?;
+    };
+    game.make_move(place, workspace.chosen())?;
+    chosen.add(choice, workspace.chosen())?;
     game.settle(place, workspace)?;
-    workspace.keep_moves(moves);
     Ok(true)
-}
-
-/// A number below another one, by chance.
-pub(crate) fn choose(count: usize, chance: &mut Pcg32) -> usize
-    requires { 0 < count }
-    ensures { result < count }
-{
-    (chance.next_u64() % count as u64) as usize
 }

@@ -1,13 +1,14 @@
 //! What is chosen by chance, and from how much.
 
 use rbg_base::{Memory, Pair};
+use rbg_moves::Choice;
 use rbg_wire::write_pairs;
 use std::alloc::Global;
 
 /// What was chosen by chance.
 #[derive(Drop)]
 pub struct Chosen {
-    /// How many moves there were to choose from, at all places together.
+    /// How many moves there were to choose from, at all places together where they were listed.
     pub choices: u64,
     /// A line of pairs for each move that was chosen, where that is wanted.
     pub lines: Option<Vec<u8>>,
@@ -30,9 +31,11 @@ impl Chosen {
         }
     }
 
-    /// Adds the move of these pairs, which was chosen from so many.
-    pub(crate) fn add(&mut self, count: usize, pairs: &[Pair]) -> Result<(), Memory> {
-        self.choices = self.choices.saturating_add(count as u64);
+    /// Adds the move of these pairs, which was chosen so.
+    pub(crate) fn add(&mut self, choice: Choice, pairs: &[Pair]) -> Result<(), Memory> {
+        if let Choice::Listed(count) = choice {
+            self.choices = self.choices.saturating_add(count as u64);
+        }
         match &mut self.lines {
             Some(lines) => {
                 write_pairs(pairs, lines)?;

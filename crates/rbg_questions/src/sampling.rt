@@ -9,7 +9,6 @@ ghost use Rattle.rbg_questions.specs.Searching.{IsUnsampled};
 ghost use Rattle.rbg_questions.specs.internal.Searching.{IsMade, TellsMove, WritesSample};
 
 use crate::answer_writer::{put_move_line, write_sampled};
-use crate::chance::choose;
 use crate::draw::Draw;
 use crate::question_error::QuestionError;
 use crate::stepping::standing_at;
@@ -81,17 +80,11 @@ fn make_one(
     ensures in_game { OnOk result (IsPlaceOf game.now place.new) }
     ensures unmoved { IfErr result (IsUnmoved game.now place.old) }
 {
-    let gathered = game.gather_moves(place, usize::MAX, workspace)?;
-    let moves = gathered.moves;
-    let count = moves.len();
-    if count == 0 {
+    let Some(_choice) = game.choose_move(place, chance, workspace)? else {
         return Ok(false);
-    }
-    let index = choose(count, chance);
-    let pairs = moves.get(index);
-    game.make_move(place, pairs)?;
-    put_move_line(pairs, lines)?;
+    };
+    game.make_move(place, workspace.chosen())?;
+    put_move_line(workspace.chosen(), lines)?;
     game.settle(place, workspace)?;
-    workspace.keep_moves(moves);
     Ok(true)
 }

@@ -1,6 +1,6 @@
 -- A move is made, or there is none, or the question or the keeper's moves after it were given up.
-use Rattle.std.proofs.Common.{◌∙◌, false, sym, subst, arith}
-use Rattle.rbg_rules.specs.Meaning.{AbstractPlace, IsLegal, Legal}
+use Rattle.std.proofs.Common.{false, sym, subst}
+use Rattle.rbg_rules.specs.Meaning.{AbstractPlace, Legal}
 use Rattle.rbg_questions.specs.declared.question_error.QuestionError.TheVariants.{Memory}
 use Rattle.rbg_questions.specs.Chance.{stopped_at, unlisted}
 use Rattle.rbg_questions.specs.Places.{no_memory}
@@ -9,21 +9,17 @@ use Rattle.rbg_questions.specs.internal.Moving.{rests}
 use Rattle.rbg_questions.specs.internal.Refusing.{refusal_of_over, refusal_of_unsettled}
 use Rattle.rbg_base.proofs.Errors.{passed_on}
 use Rattle.rbg_questions.proofs.Faults.{given_up, stopped_after}
-use Rattle.rbg_questions.proofs.PlayedMatches.{legal_at, moves_on, nothing_listed}
+use Rattle.rbg_questions.proofs.PlayedMatches.{moves_on}
 use Rattle.rbg_questions.proofs.chance.move_on.Goals as goal
 
-pub returns-in_err-gathered-clause-unmoved : goal.returns-in_err-gathered-clause-unmoved
-returns-in_err-gathered-clause-unmoved c =
-    passed_on c.from_residual.result (refusal_of_over c.in_err-gathered.field-0.0) _ c.from_residual.ensures.1 (unlisted (given_up _ _ _ _ c.in_err-gathered.field-0.0 c.in_err-gathered.ensures.lists.given_up.heavy))
+pub returns-in_err-choice-clause-unmoved : goal.returns-in_err-choice-clause-unmoved
+returns-in_err-choice-clause-unmoved c =
+    passed_on c.from_residual.result (refusal_of_over c.in_err-choice.field-0.0) _ c.from_residual.ensures.1 (unlisted (given_up _ _ _ _ c.in_err-choice.field-0.0 c.in_err-choice.ensures.given_up.heavy))
 
-pub returns-then-count-eq0-clause-moves : goal.returns-then-count-eq0-clause-moves
-returns-then-count-eq0-clause-moves c =
-    subst (MovesOn c.args.game.now c.args.place.now false) (sym c.gather_moves.ensures.kept)
-    (rests (nothing_listed _ _ _ _ _ (omega arith) c.in_ok-gathered.ensures.lists.lists (sym c.len-count.ensures.count ∙ c.if-count-eq0.true)))
-
-pub make_move-requires-clause-legal : goal.make_move-requires-clause-legal
-make_move-requires-clause-legal c =
-    subst (λ (p : AbstractPlace). IsLegal c.args.game.now p c.get.result.now) (sym c.gather_moves.ensures.kept) (legal_at _ _ _ c.choose-index.result _ c.in_ok-gathered.ensures.lists.lists.legal c.get.ensures.pairs)
+pub returns-in_default-clause-moves : goal.returns-in_default-clause-moves
+returns-in_default-clause-moves c =
+    subst (MovesOn c.args.game.now c.args.place.now false) (sym c.choose_move.ensures.kept)
+    (rests (rw c.in_default.is at c.in_ok-choice.ensures.finished))
 
 pub returns-in_err-make_move-clause-unmoved : goal.returns-in_err-make_move-clause-unmoved
 returns-in_err-make_move-clause-unmoved c =
@@ -36,8 +32,8 @@ returns-in_err-add-clause-unmoved c =
 pub returns-in_err-settle-clause-unmoved : goal.returns-in_err-settle-clause-unmoved
 returns-in_err-settle-clause-unmoved c =
     passed_on c.from_residual-in_err-settle.result (refusal_of_unsettled c.in_err-settle.field-0.0) _ c.from_residual-in_err-settle.ensures.1
-    (stopped_at (stopped_after _ _ _ _ _ c.in_err-settle.field-0.0 (subst (λ (p : AbstractPlace). Legal c.args.game.now p c.get.result.now c.make_move.new.place) c.gather_moves.ensures.kept c.in_ok-make_move.ensures.to) c.in_err-settle.ensures.heavy c.in_err-settle.ensures.endless))
+    (stopped_at (stopped_after _ _ _ _ _ c.in_err-settle.field-0.0 (subst (λ (p : AbstractPlace). Legal c.args.game.now p c.choose_move.new.workspace.front.items c.make_move.new.place) c.choose_move.ensures.kept (rw c.chosen.ensures at c.in_ok-make_move.ensures.to)) c.in_err-settle.ensures.heavy c.in_err-settle.ensures.endless))
 
 pub returns-clause-moves : goal.returns-clause-moves
 returns-clause-moves c =
-    moves_on _ _ _ _ _ (subst (λ (p : AbstractPlace). Legal c.args.game.now p c.get.result.now c.make_move.new.place) c.gather_moves.ensures.kept c.in_ok-make_move.ensures.to) c.in_ok-settle.ensures.settles
+    moves_on _ _ _ _ _ (subst (λ (p : AbstractPlace). Legal c.args.game.now p c.choose_move.new.workspace.front.items c.make_move.new.place) c.choose_move.ensures.kept (rw c.chosen.ensures at c.in_ok-make_move.ensures.to)) c.in_ok-settle.ensures.settles
