@@ -138,6 +138,7 @@ library:
 	@tools/doctests clients/python/rbg
 	@for library in ./librbg.so ''; do RBG_LIBRARY=$$library python3 clients/package_trial.py --rbg $(RBG) $(call data,tictactoe) || exit 1; done
 	@python3 clients/languages.py --rbg $(RBG) $(call data,tictactoe breakthrough)
+	@python3 clients/evenness.py --rbg $(RBG) $(call data,chess breakthrough abalone go_9x9 gomoku tictactoe english_draughts)
 
 play:
 	@test -x ./rbg_author || { echo 'make play needs ./rbg_author: run make build first'; exit 1; }

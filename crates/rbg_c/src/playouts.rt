@@ -96,7 +96,8 @@ fn play_on(state: &mut State, draw: Draw) -> Result<(), QuestionError>
     let mut numbers = Vec::new(state.allocator());
     for _ in 0..draw.count {
         numbers.clear();
-        if !state.play_one(&mut chance, &mut numbers)? {
+        let made = state.play_one(&mut chance, &mut numbers)?;
+        if !made {
             return Ok(());
         }
     }
@@ -112,7 +113,8 @@ fn sample_on(state: &mut State, draw: Draw, numbers: &mut Vec<u32>) -> Result<()
 {
     let mut chance = Pcg32::seed_from_u64(draw.seed);
     for _ in 0..draw.count {
-        if !state.play_one(&mut chance, numbers)? {
+        let made = state.play_one(&mut chance, numbers)?;
+        if !made {
             return Ok(());
         }
     }
