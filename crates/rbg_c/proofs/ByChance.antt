@@ -18,6 +18,15 @@ use Rattle.rbg_c.specs.Results.{ok}
 use Rattle.rbg_c.specs.Playouts.{HandsOut, handed, unkept, IsNotPlayedOn, stuck, Passes, none_made, one_made, PlaysCopy, PlaysOn, Samples, sampled}
 use Rattle.rbg_c.specs.internal.ByChance.{PlaysOne, one_made as made_one, none_left, IsPlayedOn, TellsOn}
 
+-- one move was made, and told
+pub played_so : (state : AbstractState) (game : AbstractGame) (pairs : List (ℕ × ℕ)) (items were : List AbstractPlace) (value now to : AbstractPlace) (before after : List ℕ) → game ≡ state.game → Leads game state.place pairs to → were ≡ state.before → value ≡ state.place → now ≡ to → items ≡ were ++ value ∷ [] → after ≡ before ++ numbers_of_move pairs → PlaysOne state true (record { game = state.game; origin = state.origin; before = items; place = now; found = None }) before after
+played_so state game pairs items were value now to before after same_game leads same_before same_place same_to so told =
+    let longer : items ≡ state.before ++ state.place ∷ [] = so ∙ (ap (λ (ks : List AbstractPlace). ks ++ value ∷ []) same_before ∙ ap (λ (v : AbstractPlace). state.before ++ v ∷ []) same_place) in
+    made_one (record {
+      leads = subst (λ (p : AbstractPlace). Leads state.game state.place pairs p) (sym same_to) (subst (λ (g : AbstractGame). Leads g state.place pairs to) same_game leads);
+      is = λ i. record { game = state.game; origin = state.origin; before = longer i; place = now; found = None };
+    }) told
+
 -- These moves were made by chance so far.
 pub record Gone (old : AbstractState) (moves : List (List (ℕ × ℕ))) (now : AbstractState) : Type 0 where
   pub game : now.game ≡ old.game
@@ -60,7 +69,7 @@ one_further old mid new moves pairs gone makes = record {
 pub one_more_made : (moves : List (List (ℕ × ℕ))) (pairs : List (ℕ × ℕ)) (made : ℕ) → length moves ≡ made → length (moves ++ pairs ∷ []) ≡ made + 1
 one_more_made moves pairs made many = length-append moves (pairs ∷ []) ∙ ap (λ n. n + 1) many
 
-pub gone_one : (old now new : AbstractState) (made : ℕ) (pairs : List (ℕ × ℕ)) → GoneOn old made now → Makes now pairs new → GoneOn old (made + 1) new
+abbrev pub gone_one : (old now new : AbstractState) (made : ℕ) (pairs : List (ℕ × ℕ)) → GoneOn old made now → Makes now pairs new → GoneOn old (made + 1) new
 gone_one old now new made pairs on makes = record {
   moves = on.moves ++ pairs ∷ [];
   gone = one_further old now new on.moves pairs on.gone makes;
