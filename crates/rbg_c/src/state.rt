@@ -96,6 +96,15 @@ fn shared_place(alloc: Global, place: Place) -> Result<Arc<Place>, Memory>
     }
 }
 
+/// The game made ready for play, also by chance.
+fn played(alloc: Global, game: Game) -> Result<PlayedGame, Memory>
+    ensures { IfOk result (λ played. played ≡ game) }
+{
+    let mut played = PlayedGame::new(alloc, game)?;
+    played.weigh()?;
+    Ok(played)
+}
+
 /// Hands the list of the moves that were found on, so that later questions have its room.
 fn hand_on(found: &mut Option<MoveList>, workspace: &mut Workspace) {
     if let Some(moves) = replace(found, None) {
@@ -110,8 +119,7 @@ impl State {
             state ≡ beginning_at game (start_place game) state.place) }
         ensures place { IfOk result (λ state. Settles game (start_place game) state.place) }
     {
-        let mut game = PlayedGame::new(alloc, game)?;
-        game.weigh()?;
+        let game = played(alloc, game)?;
         let mut workspace = Workspace::new(alloc);
         let place = first_place(&game, &mut workspace)?;
         let origin = shared_place(alloc, game.start()?)?;
@@ -132,8 +140,7 @@ impl State {
         ensures { IfOk result (λ state.
             state ≡ beginning_at game (start_place game) (start_place game)) }
     {
-        let mut game = PlayedGame::new(alloc, game)?;
-        game.weigh()?;
+        let game = played(alloc, game)?;
         let place = game.start()?;
         let origin = shared_place(alloc, game.start()?)?;
         let game = shared(alloc, game)?;
