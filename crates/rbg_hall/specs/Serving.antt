@@ -1,4 +1,4 @@
--- A hall as a call of `run` knows it. Seat 1 of such a call is line 0 of the hall.
+-- A hall as a call of `run` knows it. Line 1 of such a call is line 0 of the hall.
 use Rattle.std.specs.Prelude.{◌≡◌, ◌-◌, ℕ, Bool, true, false, List, [], ◌++◌, All, Option, Some, None, is_some, Result, IsErrOf, map, slice_get}
 use Rattle.rbg_script.specs.Events.{AbstractEvent, piece, end_of_stream, moment_alone}
 use Rattle.rbg_match.specs.Matches.{MatchState}

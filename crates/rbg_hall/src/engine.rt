@@ -10,7 +10,7 @@ use rbg_script::Event;
 use rbg_serving::{Engine, Log};
 use std::alloc::Global;
 
-/// What a hall hears where the line of a seat is heard. Seat 1 is line 0.
+/// What a hall hears where an engine's line is heard. Line 1 of an engine is line 0 of the hall.
 fn hall_event(event: Event<&[u8]>) -> Event<&[u8]>
     ensures { event_of result ≡ hall_event (event_of event.entry) }
 {

@@ -16,7 +16,8 @@ use Rattle.rbg_hosting.specs.Tables.{AreTablesOf, IsGames, HasRefused}
 abbrev pub MayBeDescriptions : List (List ℕ) → Type 0
 MayBeDescriptions descriptions = (1 ≤ length descriptions) × (length descriptions ≤ most_tables)
 
--- The lines have these bytes in a hall with a table for each description, which hears the events of the script.
+-- The lines have these bytes in a hall with a table for each description, which hears the events of the script. The number
+-- in an event is that of a seat in the script of a match; here it is that of a line, from 0.
 pub record IsHeardHall (descriptions : List (List ℕ)) (script : AbstractScript) (queues : List (List ℕ)) : Type 0 where
   pub tables : List AbstractTable
   pub are : AreTablesOf (config_for script.config) descriptions tables

@@ -12,8 +12,9 @@ use rbg_match::{Match, Outbox};
 use rbg_script::Event;
 use std::alloc::Global;
 
-/// What can be served, as a match: it handles events, and queues bytes for lines. Lines are numbered
-/// from 1: those of a match are its seats, those of a hall its lines.
+/// What can be served, as a match: it handles events, and queues bytes for lines. Its lines are numbered from 1, and the source
+/// of an event that it handles is such a number. Those of a match are its seats, which are numbered from 1 everywhere. Those of
+/// a hall are its lines, which a hall, and a script of one, number from 0: line 1 here is line 0 there.
 pub trait Engine {
     /// Where the bytes are queued.
     type Outbox;

@@ -1,5 +1,5 @@
-//! Lines to players, clocks and logs, and the serving of a match over them. With a log, each event that
-//! counts is written before the match handles it, so that what the log holds is a script of the match.
+//! Lines to players, clocks and logs, and the serving of a match over them. With a log, each event that counts is written
+//! before the match handles it, so that what the log holds is a script of the match.
 #![tactic(auto)]
 
 mod answer;
