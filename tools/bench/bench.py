@@ -169,7 +169,7 @@ def ask(run, programs):
 
 
 def playouts(run, programs):
-    """What a move of a random match costs, the keeper's moves after it among it: all moves are found, and one is made."""
+    """What a move of a random match costs, the keeper's moves after it among it: it is chosen, and made."""
     head("Random matches: `random SEED 1` of `rbg ask GAME`", "Game", "Moves a match", "Instructions a move", "Moves in a second of the processor")
     for name in DEPTHS:
         file = run.file("text.rbg", texts.game(name))
@@ -179,9 +179,10 @@ def playouts(run, programs):
             return "".join(f"random {seed} 1\n" for seed in range(1, matches + 1))
 
         def moves(matches):
-            """How many moves these matches have, as `rbg_author playouts` counts them: it plays those of the same seeds."""
-            printed = run.plain([programs.author, "playouts", file, str(matches)])[0]
-            return int(re.search(r"^moves (\d+)$", printed, re.M)[1])
+            """How many moves these matches have: `sample` plays those of the same seeds, and prints them."""
+            asked = "".join(f"sample {seed} 10000\n" for seed in range(1, matches + 1))
+            printed = run.plain(words, asked)[0]
+            return sum(int(it) for it in re.findall(r"^sample (\d+)$", printed, re.M))
 
         spent = (run.counted(words, questions(PLAYOUTS))[1] - run.counted(words)[1]) / moves(PLAYOUTS)
         matches, seconds = PLAYOUTS, 0.0
