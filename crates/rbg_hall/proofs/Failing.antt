@@ -135,6 +135,6 @@ kept_hears {W} {told} {was} {old} {new} {event} {before} {after} is worked works
   queued = hears.queued;
 })
 
-pub kept_fails : {W : Type 0} {told : W → List ℕ → Type 0} {was old new : KeptState W} {event : OwnEvent} (result : Result (Unit {0}) WriteError) (error : WriteError) → was ≡ old → old.ledger.standing ≡ Works → result ≡ Err error → IfErr result (λ reason. FailsSo told was.table event reason was.ledger.log new.ledger.log) → new.ledger.standing ≡ standing_after error → KeptFails told old event new
-kept_fails {W} {told} {was} {old} {new} {event} result error view worked is fails stands = subst (λ (one : KeptState W). KeptFails told one event new) view
+pub kept_fails : {W : Type 0} {told : W → List ℕ → Type 0} {was old new : KeptState W} {event : OwnEvent} (result : Result (Unit {0}) WriteError) (error : WriteError) → was ≡ old → old.ledger.standing ≡ Works → result ≡ Err error → IfErr result (λ reason. FailsSo told was.table event reason was.ledger.log new.ledger.log) → new.ledger.standing ≡ standing_after error → KeptFails told old event error new
+kept_fails {W} {told} {was} {old} {new} {event} result error view worked is fails stands = subst (λ (one : KeptState W). KeptFails told one event error new) view
     (fails_now (ap (λ (one : KeptState W). one.ledger.standing) view ∙ worked) (IfErr-at_err (λ reason. FailsSo told was.table event reason was.ledger.log new.ledger.log) is fails) stands)

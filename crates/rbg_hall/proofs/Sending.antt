@@ -9,7 +9,7 @@ use Rattle.rbg_hall.specs.Kept.{KeptState, Ledger, no_log, told_log}
 use Rattle.rbg_hall.specs.LogLaws.{KeptRun, SendsWhatIsTold}
 use Rattle.rbg_hall.specs.LogLaws as runs
 use Rattle.rbg_hall.proofs.LogSending.{log_sends_what_is_told, run_of}
-use Rattle.rbg_serving.specs.declared.served.ServeError.TheVariants.{Rounds, Memory}
+use Rattle.rbg_serving.specs.declared.served.ServeError.TheVariants.{Rounds, Handle}
 use Rattle.rbg_serving.proofs.Common.{Heard, event_of, Intake, Handles}
 use Rattle.rbg_serving.specs.Passing as passing
 use Rattle.rbg_hall.proofs.Common.{asks_for, HeldHall, AbstractTable, HallState, LoggedRun, LogSends, LogsSendWhatIsTold, ServedHallRunsOn, EachWrites, KeptHearsEach, given_at, given_to, kept, log_at, log_of, own, hall_event, hall_events, of_hall}
@@ -190,6 +190,6 @@ handled_on {told = told} {starts} {events} {new = new} {queued = queued} run (pa
     (laws.more (handled_on run handles) step.0)
 
 pub served_hall_runs_on : {W : Type 0} (told : W → List ℕ → Type 0) → ServedHallRunsOn told
-served_hall_runs_on told starts events rounds before after moments old new queued_before queued (Ok served) run serves other = handled_on run serves.ends.0.handles
-served_hall_runs_on told starts events rounds before after moments old new queued_before queued (Err Rounds) run serves other = handled_on run serves.ends.0.handles
-served_hall_runs_on told starts events rounds before after moments old new queued_before queued (Err Memory) run serves other = absurd (other refl)
+served_hall_runs_on told starts events rounds before after moments old new queued_before queued (Ok served) run serves = handled_on run serves.ends.0.handles
+served_hall_runs_on told starts events rounds before after moments old new queued_before queued (Err Rounds) run serves = handled_on run serves.ends.0.handles
+served_hall_runs_on told starts events rounds before after moments old new queued_before queued (Err (Handle error)) run serves = tt

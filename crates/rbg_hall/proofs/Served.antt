@@ -1,13 +1,17 @@
 -- A hall that is served.
-use Rattle.rbg_base.proofs.Common.{◌≡◌, ℕ, zero, suc, ◌<◌, Bool, List, [], ◌∷◌, length, true, false, refl, sym, ap, ◌∙◌, subst, arith, append-nil, Result, Ok, Err, inl, inr, map-append, OnOk, OnErr, is_err}
+use Rattle.rbg_base.proofs.Common.{◌≡◌, ℕ, zero, suc, ◌<◌, Bool, List, [], ◌∷◌, length, true, false, refl, sym, ap, ◌∙◌, subst, arith, append-nil, Result, Ok, Err, inl, inr, map-append, ◌↔◌}
 use Rattle.rbg_hall.specs.Tellings.{Telling, bytes_to, told_from}
 use Rattle.rbg_hall.proofs.Telling.{length-told_to}
 use Rattle.rbg_serving.specs.declared.served.Served.{Served}
 use Rattle.rbg_serving.specs.declared.served.ServeError.{ServeError}
-use Rattle.rbg_serving.specs.declared.served.ServeError.TheVariants.{Rounds, Memory}
+use Rattle.rbg_serving.specs.declared.served.ServeError.TheVariants.{Rounds, Handle}
+use Rattle.rbg_serving.specs.declared.keeping.WriteError.{WriteError}
+use Rattle.rbg_serving.specs.Unhandled.{unwritten}
+use Rattle.rbg_serving.proofs.Logging.{on_handled}
+use Rattle.rbg_hall.specs.Serving.{FailsHall, StopsHall}
 use Rattle.rbg_serving.proofs.Common.{Heard, event_of, Intake, Handles, Extends, ExtendAll, queued_at}
 use Rattle.rbg_serving.specs.Passing as passing
-use Rattle.rbg_hall.proofs.Common.{HeldHall, AbstractTable, HallState, HallHears, ServedHallIsAllowed, HallStops, HallWrites, IsNewHall, IsServedHall, hall_event, hall_events, of_hall, HasRun, IsOfHall}
+use Rattle.rbg_hall.proofs.Common.{HeldHall, AbstractTable, HallState, HallHears, HasLogFailed, ServedHallIsAllowed, IsNewHall, IsServedHall, hall_event, hall_events, of_hall, HasRun, IsOfHall}
 use Rattle.rbg_script.specs.Events.{AbstractEvent}
 use Rattle.rbg_hall.proofs.Wholes.{run_on, new_run, run_allowed}
 
@@ -22,22 +26,13 @@ hearing_extends {before = before} hears = λ index within.
     subst (λ queues. Extends (queued_at before index) (queued_at queues index)) (sym hears.queued)
     (told_extends 0 before hears.told index within)
 
--- what the step of a hall answers, as a call hears it
-pub stepped_so : {E W : Type 0} (told : W → List ℕ → Type 0) (old new : HeldHall W) (before after : List (List ℕ)) (result : Result (Unit {0}) E) (heard wanted : AbstractEvent) → heard ≡ wanted → new.failed ≡ is_err result → OnOk result (HallWrites told old.state old.ledgers heard new.state new.ledgers before after) → OnOk result (HallWrites told old.state old.ledgers wanted new.state new.ledgers before after × (new.failed ≡ false))
-stepped_so told old new before after (Ok done) heard wanted same failing writes = (subst (λ event. HallWrites told old.state old.ledgers event new.state new.ledgers before after) same writes, failing)
-stepped_so told old new before after (Err error) heard wanted same failing writes = tt
-
-pub failed_so : {E W : Type 0} (told : W → List ℕ → Type 0) (old new : HeldHall W) (before after : List (List ℕ)) (result : Result (Unit {0}) E) → new.failed ≡ is_err result → OnErr result (after ≡ before) → OnErr result (HallStops told old.state.tables old.ledgers new.state.tables new.ledgers) → OnErr result ((after ≡ before) × ((new.failed ≡ true) × HallStops told old.state.tables old.ledgers new.state.tables new.ledgers))
-failed_so told old new before after (Ok done) failing kept stops = tt
-failed_so told old new before after (Err error) failing kept stops = (kept, (failing, stops))
-
-pub works_so : {E : Type 0} (was failed : Bool) (result : Result (Unit {0}) E) → failed ≡ is_err result → OnOk result (was ≡ false → failed ≡ false)
-works_so was failed (Ok done) failing = λ _. failing
-works_so was failed (Err error) failing = tt
-
-pub as_many_so : {E : Type 0} (old new : HallState) (event : AbstractEvent) (before after : List (List ℕ)) (result : Result (Unit {0}) E) → OnOk result (HallHears old event new before after) → OnErr result (after ≡ before) → length after ≡ length before
-as_many_so old new event before after (Ok done) hears kept = ap length hears.queued ∙ length-told_to before hears.told
-as_many_so old new event before after (Err error) hears kept = ap length kept
+-- what fails in a hall, as a call hears it
+pub stops_so : {W : Type 0} (told : W → List ℕ → Type 0) (old new : HeldHall W) (error : WriteError) → FailsHall told old new → (error ≡ WriteError.Log) ↔ HasLogFailed new.ledgers → StopsHall told old (unwritten error) new
+stops_so told old new WriteError.Memory fails log = (fails, λ failed. memory_is_not_log (log.1 failed))
+  where
+    memory_is_not_log : ¬ (WriteError.Memory ≡ WriteError.Log)
+    memory_is_not_log e = cc
+stops_so told old new WriteError.Log fails log = (fails, log.0 refl)
 
 -- a hall that handles what is heard has run through it
 pub handled_run : {W : Type 0} {told : W → List ℕ → Type 0} {starts : List AbstractTable} {lines : ℕ} {old : HeldHall W} {before : List (List ℕ)} {heard : List Heard} {new : HeldHall W} {queued : List (List ℕ)} {since : List Intake} →
@@ -68,7 +63,7 @@ all_so heard result new handles = record {
   handled = heard;
   left = [];
   split = sym (append-nil heard);
-  all = λ _. refl;
+  all = on_handled result refl;
   allowed = allowed_so new handles;
 }
 
@@ -77,21 +72,21 @@ served_hall_is_allowed told starts rounds before after moments old new queued_be
     all_so serves.heard (Ok served) made serves.ends.0.handles
 served_hall_is_allowed told starts rounds before after moments old new queued_before queued (Err Rounds) made serves =
     all_so serves.heard (Err Rounds) made serves.ends.0.handles
-served_hall_is_allowed told starts rounds before after moments old new queued_before queued (Err Memory) made serves =
+served_hall_is_allowed told starts rounds before after moments old new queued_before queued (Err (Handle error)) made serves =
     elim serves.ends.1 [
-      | inl lacks ↦ record {
-        handled = lacks.handled;
-        left = lacks.refused ∷ [];
-        split = lacks.split;
-        all = λ other. absurd (other refl);
-        allowed = allowed_so made lacks.handles;
+      | inl leaves ↦ record {
+        handled = leaves.handled;
+        left = leaves.left ∷ [];
+        split = leaves.split;
+        all = tt;
+        allowed = allowed_so made leaves.handles;
       }
       | inr nothing ↦ record {
         handled = [];
         left = [];
-        split = nothing.0;
-        all = λ other. absurd (other refl);
-        allowed = subst (λ queues. IsOfHall starts [] queues) (sym nothing.3)
+        split = nothing.1;
+        all = tt;
+        allowed = subst (λ queues. IsOfHall starts [] queues) (sym nothing.4)
             (allowed_so {told = told} {lines = 0} made passing.nothing);
       }
     ]

@@ -1,5 +1,5 @@
 -- The items that a line has completed are heard in turn.
-use Rattle.rbg_base.proofs.Common.{◌≡◌, ℕ, List, [], ◌∷◌, ◌++◌, map, drop, refl, sym, ap, ◌∙◌, subst, Some, None, append_assoc, none-some, slice_get, OnErr, Result, Ok, Err}
+use Rattle.rbg_base.proofs.Common.{◌≡◌, ℕ, List, [], ◌∷◌, ◌++◌, map, drop, refl, sym, ap, ◌∙◌, subst, Some, None, append_assoc, none-some, slice_get, IfErr, OnErr, Result, Ok, Err}
 use Rattle.std.proofs.lemmas.List.{map-append, append-nil}
 use Rattle.std.proofs.lemmas.List.Elements.{All-head, All-tail}
 use Rattle.rbg_wire.specs.Whole.{IsCutAlone}
@@ -8,6 +8,7 @@ use Rattle.rbg_wire.specs.Streams.{Item, Stream, without_first}
 use Rattle.rbg_hall.proofs.TableCommon.{OwnEvent, QueueState, says, told_to}
 use Rattle.rbg_hall.proofs.Telling.{told_to-append, told_to-none}
 use Rattle.rbg_hall.specs.Kept.{KeptFails, KeptHearsFor, KeptState}
+use Rattle.rbg_serving.specs.declared.keeping.WriteError.{WriteError}
 use Rattle.rbg_hall.proofs.Common.{AreWhole, Becomes, KeptHearsEach, HearsEachFor}
 use Rattle.rbg_hall.specs.Ledgers as ledgers
 
@@ -52,8 +53,13 @@ pub on_error : {T E P : Type 0} (result : Result T E) → P → OnErr result P
 on_error (Ok done) holds = tt
 on_error (Err error) holds = holds
 
+-- what holds whatever the error is
+pub on_any_error : {T E P : Type 0} {Q : E → Type 0} (result : Result T E) → ((error : E) → Q error → P) → IfErr result Q → OnErr result P
+on_any_error (Ok done) leads holds = tt
+on_any_error (Err error) leads holds = leads error holds
+
 -- a table stops at an event, or after it
-pub stops_at : {W : Type 0} {tells : W → List ℕ → Type 0} {old new : KeptState W} {event : OwnEvent} → KeptFails tells old event new → Becomes tells old new
+pub stops_at : {W : Type 0} {tells : W → List ℕ → Type 0} {old new : KeptState W} {event : OwnEvent} {reason : WriteError} → KeptFails tells old event reason new → Becomes tells old new
 stops_at fails = ledgers.stopped ledgers.none fails
 
 pub stops_after : {W : Type 0} {tells : W → List ℕ → Type 0} {old middle new : KeptState W} {event : OwnEvent} {before between : List (List ℕ)} → KeptHearsFor tells old event middle before between → Becomes tells middle new → Becomes tells old new
@@ -107,5 +113,5 @@ all_taken {tells = tells} {start} {table} {line} {at} {from} {inbox} {before} {a
       λ i. record { limit = has.same_limit i; items = empty i; rest = has.same_rest i },
     )
 
-pub stops_taking : {W : Type 0} {tells : W → List ℕ → Type 0} {start table next : KeptState W} {line at : ℕ} {from inbox : Stream} {before after : QueueState} {event : OwnEvent} → HasTaken tells start line at from before table inbox after → KeptFails tells table event next → Becomes tells start next
+pub stops_taking : {W : Type 0} {tells : W → List ℕ → Type 0} {start table next : KeptState W} {line at : ℕ} {from inbox : Stream} {before after : QueueState} {event : OwnEvent} {reason : WriteError} → HasTaken tells start line at from before table inbox after → KeptFails tells table event reason next → Becomes tells start next
 stops_taking has fails = ledgers.stopped has.hears.hears fails

@@ -4,6 +4,7 @@ use Rattle.std.proofs.lemmas.List.{length-set}
 use Rattle.rbg_hall.proofs.TableCommon.{OwnEvent, QueueState, clock, Telling, told_to}
 use Rattle.rbg_hall.proofs.Telling.{told_to-append, told_to-none}
 use Rattle.rbg_hall.specs.Kept.{KeptFails, KeptHearsFor, KeptState}
+use Rattle.rbg_serving.specs.declared.keeping.WriteError.{WriteError}
 use Rattle.rbg_hall.proofs.Common.{Becomes, KeptHearsEach, EachKeptHears, HearsEachFor, TablesHear, TablesStop}
 use Rattle.rbg_hall.specs.Ledgers as ledgers
 use Rattle.rbg_hall.specs.internal.Hearing as hearing
@@ -176,9 +177,9 @@ one_stops {W} {tells} (table ∷ tables) zero old new found becomes =
 one_stops (table ∷ tables) (suc index) old new found becomes = hearing.more (ledgers.heard ledgers.none) (one_stops tables index old new found becomes)
 
 -- some have heard the clock, and at the next one something fails
-ticked_stops : {W : Type 0} {tells : W → List ℕ → Type 0} {at count : ℕ} {olds news : List (KeptState W)} {told : List (List Telling)} (old new : KeptState W) → Ticked tells at count olds news told → old ≡ get_or news count old → KeptFails tells old (clock at) new → TablesStop tells olds (set news count new)
+ticked_stops : {W : Type 0} {tells : W → List ℕ → Type 0} {at count : ℕ} {reason : WriteError} {olds news : List (KeptState W)} {told : List (List Telling)} (old new : KeptState W) → Ticked tells at count olds news told → old ≡ get_or news count old → KeptFails tells old (clock at) reason new → TablesStop tells olds (set news count new)
 ticked_stops {olds = olds} old new no_tick found fails = one_stops olds 0 old new found (stops_at fails)
 ticked_stops old new (one_tick hears ticked) found fails = hearing.more (ledgers.heard hears) (ticked_stops old new ticked found fails)
 
-pub ticking_stops : {W : Type 0} {tells : W → List ℕ → Type 0} {at count : ℕ} {olds news : List (KeptState W)} {before after : QueueState} (old new : KeptState W) → HaveTicked tells at count olds news before after → old ≡ get_or news count old → KeptFails tells old (clock at) new → TablesStop tells olds (set news count new)
+pub ticking_stops : {W : Type 0} {tells : W → List ℕ → Type 0} {at count : ℕ} {reason : WriteError} {olds news : List (KeptState W)} {before after : QueueState} (old new : KeptState W) → HaveTicked tells at count olds news before after → old ≡ get_or news count old → KeptFails tells old (clock at) reason new → TablesStop tells olds (set news count new)
 ticking_stops old new have found fails = ticked_stops old new have.ticked found fails

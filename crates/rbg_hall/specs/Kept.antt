@@ -108,15 +108,16 @@ pub record KeptHearsFor {W : Type 0} (told : W → List ℕ → Type 0) (old : K
   pub hears : KeptHears told old event new outgoing
   pub queued : after ≡ told_to before outgoing
 
--- A table doesn't hear an event.
+-- A table doesn't hear an event, for this reason.
 --   failed_before: something had failed before, and nothing changes.
 --   fails_now: all worked until now.
-pub data KeptFails {W : Type 0} (told : W → List ℕ → Type 0) (old : KeptState W) (event : OwnEvent) : (new : KeptState W) → Type 0 where
+pub data KeptFails {W : Type 0} (told : W → List ℕ → Type 0) (old : KeptState W) (event : OwnEvent) (reason : WriteError) :
+    (new : KeptState W) → Type 0 where
   failed_before :
-      ¬ (old.ledger.standing ≡ Works) →
-      KeptFails told old event old
-  fails_now : {reason : WriteError} {new : KeptState W} →
+      old.ledger.standing ≡ standing_after reason →
+      KeptFails told old event reason old
+  fails_now : {new : KeptState W} →
       old.ledger.standing ≡ Works →
       FailsSo told old.table event reason old.ledger.log new.ledger.log →
       new.ledger.standing ≡ standing_after reason →
-      KeptFails told old event new
+      KeptFails told old event reason new

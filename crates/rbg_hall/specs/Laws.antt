@@ -1,5 +1,5 @@
 -- Laws of a hall.
-use Rattle.std.specs.Prelude.{◌≡◌, ◌+◌, ◌==◌, ◌++◌, ℕ, true, List, [], ◌∷◌, Option, Some, IsErrOf, Result, length, map, replicate, slice_get, slice_index_or, if◌then◌else◌}
+use Rattle.std.specs.Prelude.{◌≡◌, ◌+◌, ◌==◌, ◌++◌, ℕ, true, List, [], ◌∷◌, Option, Some, Result, length, map, replicate, slice_get, slice_index_or, if◌then◌else◌}
 use Rattle.std.specs.List.{flat_map}
 use Rattle.rbg_wire.specs.declared.message.Reason.TheVariants.{OutOfTurn}
 use Rattle.rbg_wire.specs.Messages.{refusal_message, spelling}
@@ -15,8 +15,7 @@ use Rattle.rbg_serving.specs.declared.served.Served.{Served}
 use Rattle.rbg_hall.specs.Kept.{Ledger, no_log}
 use Rattle.rbg_serving.specs.Logs.{IsLog}
 use Rattle.rbg_serving.specs.declared.served.ServeError.{ServeError}
-use Rattle.rbg_serving.specs.declared.served.ServeError.TheVariants.{Memory}
-use Rattle.rbg_serving.specs.Serving.{Serves}
+use Rattle.rbg_serving.specs.Serving.{OnHandled, Serves}
 use Rattle.rbg_serving.specs.Told.{Told}
 use Rattle.rbg_hall.specs.Allowed.{IsAllowed}
 use Rattle.rbg_hall.specs.Apart.{asks_for, concerning, IsExchanged}
@@ -158,15 +157,14 @@ LogsSendWhatIsTold {W} told =
     log_at ledgers (index + 1) ≡ Some log →
     LogSends told log start (own (length starts) (index + 1) events) table.seats playing queues
 
--- A hall that is served has heard what was heard in the call after what it heard before, unless memory ran out.
+-- A hall that is served has heard what was heard in the call after what it heard before, unless something failed.
 abbrev pub ServedHallRunsOn : {W : Type 0} → (told : W → List ℕ → Type 0) → Type 0
 ServedHallRunsOn {W} told =
     (starts : List AbstractTable) (events : List AbstractEvent) (rounds : ℕ) (before after : List Told)
     (moments : List ℕ) (old new : HeldHall W) (queued_before queued : List (List ℕ)) (result : Result Served ServeError) →
     LoggedRun told starts events old.state old.ledgers queued_before →
     (serves : Serves (of_hall told) rounds before after moments old new queued_before queued result) →
-    (¬ IsErrOf result Memory) →
-    LoggedRun told starts (events ++ hall_events serves.heard) new.state new.ledgers queued
+    OnHandled result (LoggedRun told starts (events ++ hall_events serves.heard) new.state new.ledgers queued)
 
 -- What is queued for the lines of a new hall that was served may be queued for them after what was heard.
 abbrev pub ServedHallIsAllowed : {W : Type 0} → (told : W → List ℕ → Type 0) → Type 0

@@ -5,6 +5,7 @@ use Rattle.rbg_hall.specs.Tellings.{Telling}
 use Rattle.rbg_hall.specs.declared.standing.Standing.TheVariants.{LogFailed}
 use Rattle.rbg_hall.specs.Kept.{KeptFails, KeptHears, KeptState, Ledger, given, told_log}
 use Rattle.rbg_hall.specs.LogLedgers.{HasLog}
+use Rattle.rbg_serving.specs.declared.keeping.WriteError.{WriteError}
 use Rattle.rbg_script.specs.Events.{AbstractEvent}
 use Rattle.rbg_hall.specs.Halls.{HallState, line_at}
 use Rattle.rbg_hall.specs.Hearing.{HallHears}
@@ -64,9 +65,9 @@ pub data Becomes {W : Type 0} (told : W → List ℕ → Type 0) (old : KeptStat
   heard : {events : List OwnEvent} {new : KeptState W} {outgoing : List Telling} →
       KeptHearsEach told old events new outgoing →
       Becomes told old new
-  stopped : {events : List OwnEvent} {event : OwnEvent} {middle new : KeptState W} {outgoing : List Telling} →
+  stopped : {events : List OwnEvent} {event : OwnEvent} {reason : WriteError} {middle new : KeptState W} {outgoing : List Telling} →
       KeptHearsEach told old events middle outgoing →
-      KeptFails told middle event new →
+      KeptFails told middle event reason new →
       Becomes told old new
 
 -- a table and its ledger

@@ -5,9 +5,8 @@ ghost use Rattle.rbg_hall.specs.Serving.{hall_event};
 
 use crate::Hall;
 use crate::queues::HallOut;
-use rbg_base::Memory;
 use rbg_script::Event;
-use rbg_serving::{Engine, Log};
+use rbg_serving::{Engine, HandleError, Log};
 use std::alloc::Global;
 
 /// What a hall hears where an engine's line is heard. Line 1 of an engine is line 0 of the hall.
@@ -16,16 +15,16 @@ fn hall_event(event: Event<&[u8]>) -> Event<&[u8]>
 {
     match event {
         Event::Piece {
-            source: seat,
+            source: line,
             at,
             bytes,
         } => Event::Piece {
-            source: seat.saturating_sub(1),
+            source: line.saturating_sub(1),
             at,
             bytes,
         },
-        Event::Ended { source: seat, at } => Event::Ended {
-            source: seat.saturating_sub(1),
+        Event::Ended { source: line, at } => Event::Ended {
+            source: line.saturating_sub(1),
             at,
         },
         Event::Tick { at } => Event::Tick { at },
@@ -54,12 +53,13 @@ impl<W: Log> Engine for Hall<W> {
 
     ghost first_due = { λ hall due. IsFirstDue hall.state.tables due };
 
-    fn handle(&mut self, event: Event<&[u8]>, outbox: &mut HallOut) -> Result<(), Memory> {
-        self.step(hall_event(event), outbox)
+    fn handle(&mut self, event: Event<&[u8]>, outbox: &mut HallOut) -> Result<(), HandleError> {
+        self.step(hall_event(event), outbox)?;
+        Ok(())
     }
 
-    fn listens(&self, seat: usize) -> bool {
-        !self.have_all_ended() && self.may_speak(seat.saturating_sub(1))
+    fn listens(&self, line: usize) -> bool {
+        !self.have_all_ended() && self.may_speak(line.saturating_sub(1))
     }
 
     fn is_over(&self) -> bool {

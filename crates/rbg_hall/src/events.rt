@@ -8,9 +8,8 @@ use crate::hearing::{hear_end, hear_piece, tick};
 use crate::kept_table::KeptTable;
 use crate::line::{LinePhase, Speaker};
 use crate::queues::Queues;
-use rbg_base::Memory;
 use rbg_script::Event;
-use rbg_serving::Log;
+use rbg_serving::{Log, WriteError};
 use std::mem::replace;
 
 /// Hears an event.
@@ -19,7 +18,7 @@ pub(crate) fn hear_event<W: Log>(
     lines: &mut [LinePhase],
     event: Event<&[u8]>,
     out: &mut Queues,
-) -> Result<(), Memory>
+) -> Result<(), WriteError>
     requires { AreReady (length tables.old) lines.old }
     ensures writes { OnOk result (KeptWrites W.told tables.old lines.old (event_of event.entry)
         tables.new lines.new out.old.queued out.new.queued) }
@@ -48,7 +47,7 @@ fn hear_line<W: Log>(
     by: Speaker,
     bytes: Option<&[u8]>,
     out: &mut Queues,
-) -> Result<(), Memory>
+) -> Result<(), WriteError>
     requires { AreReady (length tables.old) lines.old }
     ensures writes { OnOk result (KeptWrites W.told tables.old lines.old (said_by by.line by.at (option_copied bytes.entry))
         tables.new lines.new out.old.queued out.new.queued) }

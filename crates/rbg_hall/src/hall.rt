@@ -27,7 +27,7 @@ use crate::{HallError, Table};
 use rbg_base::Memory;
 use rbg_match::Match;
 use rbg_script::Event;
-use rbg_serving::Log;
+use rbg_serving::{Log, WriteError};
 use std::alloc::Global;
 use std::marker::Model;
 
@@ -42,7 +42,7 @@ pub struct Hall<W: Log> {
     tables: Vec<KeptTable<W>>,
     /// The lines, line 0 first.
     lines: Vec<LinePhase>,
-    /// Whether memory ran out in something that the hall heard.
+    /// Whether something failed when the hall was to hear an event.
     failed: bool,
 }
 
@@ -109,27 +109,41 @@ impl<W: Log> Hall<W> {
     }
 
     /// Hears an event, and queues what the lines are told. An event of a line above the last does nothing. A refusal leaves
-    /// the queues as they were, and the hall answers `Memory` from then on.
-    pub fn step(&mut self, event: Event<&[u8]>, out: &mut HallOut) -> Result<(), Memory>
+    /// the queues as they were, and the hall hears nothing more: it answers the same from then on.
+    pub fn step(&mut self, event: Event<&[u8]>, out: &mut HallOut) -> Result<(), WriteError>
         ensures hears { OnOk result (HallHears self.old.state (event_of event.entry) self.new.state out.old out.new) }
         ensures writes { OnOk result (HallWrites W.told self.old.state self.old.ledgers (event_of event.entry)
             self.new.state self.new.ledgers out.old out.new) }
         ensures kept { OnErr result (out.new ≡ out.old) }
         ensures stops { OnErr result (HallStops W.told self.old.state.tables self.old.ledgers
             self.new.state.tables self.new.ledgers) }
+        ensures reason { IfErr result (λ error. (error ≡ WriteError.Log) ↔ HasLogFailed self.new.ledgers) }
         ensures failing { self.new.failed ≡ is_err result }
         ensures failed { self.old.failed ≡ true → IsErr result }
     {
         if self.failed {
-            return Err(Memory);
+            return Err(self.failure());
         }
         out.queues.begin();
-        let heard = hear_event(&mut self.tables, &mut self.lines, event, &mut out.queues);
-        if heard.is_err() {
-            self.failed = true;
-            out.queues.roll_back();
+        match hear_event(&mut self.tables, &mut self.lines, event, &mut out.queues) {
+            Ok(()) => Ok(()),
+            Err(_) => {
+                self.failed = true;
+                out.queues.roll_back();
+                Err(self.failure())
+            }
         }
-        heard
+    }
+
+    /// What has failed: a log, or else a request for memory.
+    fn failure(&self) -> WriteError
+        ensures { (result ≡ WriteError.Log) ↔ HasLogFailed self.now.ledgers }
+    {
+        if has_log_failed(&self.tables) {
+            WriteError::Log
+        } else {
+            WriteError::Memory
+        }
     }
 
     /// The match of a table, once it has begun. Tables are numbered from 1.
@@ -155,13 +169,6 @@ impl<W: Log> Hall<W> {
         ensures has { IfSome result (λ log. IsLogAt W.told log.now self.now.state.tables table) }
     {
         log_of(&self.tables, table)
-    }
-
-    /// Whether a log failed.
-    pub fn has_log_failed(&self) -> bool
-        ensures { IsTrue result ↔ HasLogFailed self.now.ledgers }
-    {
-        has_log_failed(&self.tables)
     }
 
     /// Whether every match has begun and ended.

@@ -14,8 +14,7 @@ use crate::kept_table::KeptTable;
 use crate::line::{LinePhase, Speaker};
 use crate::queues::Queues;
 use crate::request::table_of;
-use rbg_base::Memory;
-use rbg_serving::Log;
+use rbg_serving::{Log, WriteError};
 use rbg_wire::{Inbox, Reason};
 
 /// What the first message of a line asks for.
@@ -48,7 +47,7 @@ fn say_each<W: Log>(
     inbox: &mut Inbox,
     by: Speaker,
     out: &mut Queues,
-) -> Result<(), Memory>
+) -> Result<(), WriteError>
     requires { AreWhole inbox.old.items }
     ensures hears { OnOk result (HearsEachFor W.told table.old (map (says by.line by.at) inbox.old.items) table.new
         out.old.queued out.new.queued) }
@@ -74,7 +73,7 @@ fn hear_from<W: Log>(
     inbox: &mut Inbox,
     by: Speaker,
     out: &mut Queues,
-) -> Result<(), Memory>
+) -> Result<(), WriteError>
     requires first { SaysWhole (input_of first) }
     requires items { AreWhole inbox.old.items }
     ensures hears { OnOk result (HearsEachFor W.told table.old (input_of first.entry ∷ map (says by.line by.at) inbox.old.items)
@@ -94,7 +93,7 @@ fn hear_first<W: Log>(
     by: Speaker,
     bytes: &[u8],
     out: &mut Queues,
-) -> Result<LinePhase, Memory>
+) -> Result<LinePhase, WriteError>
     requires { IsEmptied inbox }
     ensures hears { IfOk result (λ next. PieceHeard W.told tables.old (silent inbox.rest) by.line by.at bytes.now tables.new
         (line_of next) out.old.queued out.new.queued) }
@@ -128,7 +127,7 @@ pub(crate) fn hear_piece<W: Log>(
     by: Speaker,
     bytes: &[u8],
     out: &mut Queues,
-) -> Result<LinePhase, Memory>
+) -> Result<LinePhase, WriteError>
     requires { IsReady (length tables.old) one }
     ensures hears { IfOk result (λ next. PieceHeard W.told tables.old (line_of one) by.line by.at bytes.now tables.new
         (line_of next) out.old.queued out.new.queued) }
@@ -158,7 +157,7 @@ pub(crate) fn hear_end<W: Log>(
     one: LinePhase,
     by: Speaker,
     out: &mut Queues,
-) -> Result<(), Memory>
+) -> Result<(), WriteError>
     requires { IsReady (length tables.old) one }
     ensures hears { OnOk result (TablesHear W.told (λ table. heard_of_end table (line_of one) by.line by.at) tables.old tables.new
         out.old.queued out.new.queued) }
@@ -184,7 +183,7 @@ pub(crate) fn tick<W: Log>(
     tables: &mut [KeptTable<W>],
     at: u64,
     out: &mut Queues,
-) -> Result<(), Memory>
+) -> Result<(), WriteError>
     ensures hears { OnOk result (TablesHear W.told (λ table. clock at ∷ []) tables.old tables.new out.old.queued out.new.queued) }
     ensures stops { OnErr result (TablesStop W.told tables.old tables.new) }
     ensures count { length tables.new ≡ length tables.old }

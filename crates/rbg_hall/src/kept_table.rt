@@ -1,5 +1,5 @@
 //! A table with the log of its match.
-ghost use Rattle.std.specs.Prelude.{◌≡◌, ◌↔◌, [], false, option_copied, option_map, IfSome, IsTrue, OnErr, OnOk};
+ghost use Rattle.std.specs.Prelude.{◌≡◌, ◌↔◌, [], false, option_copied, option_map, IfErr, IfNone, IfSome, IsTrue, OnOk};
 ghost use Rattle.rbg_hall.specs.TableHearing.{SaysWhole, input_of};
 ghost use Rattle.rbg_hall.specs.Tables.{HasSeat};
 ghost use Rattle.rbg_match.specs.Matches.{HasHistory};
@@ -11,7 +11,6 @@ use crate::input::TableInput;
 use crate::noting::hear_kept;
 use crate::queues::Queues;
 use crate::standing::Standing;
-use rbg_base::Memory;
 use rbg_match::Match;
 use rbg_serving::{Log, WriteError};
 use std::alloc::Global;
@@ -101,6 +100,18 @@ impl<W: Log> KeptTable<W> {
         }
     }
 
+    /// What has failed, if something has.
+    fn failure(&self) -> Option<WriteError>
+        ensures failed { IfSome result (λ reason. self.now.ledger.standing ≡ standing_after reason) }
+        ensures works { IfNone result (self.now.ledger.standing ≡ Standing.Works) }
+    {
+        match self.standing {
+            Standing::Works => None,
+            Standing::LogFailed => Some(WriteError::Log),
+            Standing::OutOfMemory => Some(WriteError::Memory),
+        }
+    }
+
     /// The match, once it has begun.
     pub(crate) fn begun(&self) -> Option<&Match>
         ensures is { option_map (λ playing. playing.now) result ≡ self.now.table.begun }
@@ -118,14 +129,14 @@ impl<W: Log> KeptTable<W> {
 
     /// Hears an event of the clock, or of a line that asked for this table, and queues what it tells its lines. What the
     /// match is handed of it is written before. Once something has failed nothing is heard.
-    pub(crate) fn hear(&mut self, input: TableInput<'_>, out: &mut Queues) -> Result<(), Memory>
+    pub(crate) fn hear(&mut self, input: TableInput<'_>, out: &mut Queues) -> Result<(), WriteError>
         requires { SaysWhole (input_of input) }
         ensures hears { OnOk result (KeptHearsFor W.told self.old (input_of input.entry) self.new out.old.queued out.new.queued) }
-        ensures fails { OnErr result (KeptFails W.told self.old (input_of input.entry) self.new) }
+        ensures fails { IfErr result (λ reason. KeptFails W.told self.old (input_of input.entry) reason self.new) }
         ensures committed { out.new.committed ≡ out.old.committed }
     {
-        if !self.works() {
-            return Err(Memory);
+        if let Some(reason) = self.failure() {
+            return Err(reason);
         }
         self.standing = Standing::OutOfMemory;
         let heard = hear_kept(&mut self.table, input, &mut self.log, &mut self.line, out);
@@ -137,7 +148,7 @@ impl<W: Log> KeptTable<W> {
             Err(error) => {
                 let standing = standing_after(error);
                 self.standing = standing;
-                Err(Memory)
+                Err(error)
             }
         }
     }

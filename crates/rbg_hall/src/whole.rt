@@ -27,7 +27,7 @@ pub fn whole_hall(
     Ok(out)
 }
 
-/// Hears the events in turn.
+/// Hears the events in turn, in a hall without logs.
 fn hear_all<W: Log>(
     hall: &mut Hall<W>,
     events: &[Event<&[u8]>],
@@ -38,7 +38,11 @@ fn hear_all<W: Log>(
         OnOk result (HasRun starts (earlier ++ map event_of events.now) hall.new.state out.new) }
 {
     for event in events {
-        hall.step(*event, out)?;
+        match hall.step(*event, out) {
+            Ok(()) => (),
+            // No table has a log, so there was no memory.
+            Err(_) => return Err(Memory),
+        }
     }
     Ok(())
 }

@@ -1,19 +1,22 @@
 -- A hall that was served, and whose records were handed to an archive.
 use Rattle.rbg_base.proofs.Common.{◌≡◌, ◌⊎◌, inl, inr, ℕ, zero, suc, ◌+◌, ◌<◌, Bool, true, false, List, [], ◌∷◌, ◌++◌, Result, Ok, Err, OnOk, OnErr, map, replicate, slice_get, slice_index_or, sym, ap, ◌∙◌, refl, subst, map-append, append-nil, append_assoc, get_or-replicate}
-use Rattle.rbg_script.specs.Events.{AbstractEvent}
+use Rattle.rbg_script.specs.Events.{AbstractEvent, moment_of}
 use Rattle.rbg_hall.proofs.Common.{AbstractTable, HallHears, HallState, HasRun, HeldHall, IsNewHall, begun_of, hall_event, new_hall}
 use Rattle.rbg_hall.proofs.Wholes.{run_on}
 use Rattle.rbg_hall.proofs.TableCommon.{lines_in_all}
 use Rattle.rbg_hall.proofs.Telling.{told_to-none}
 use Rattle.rbg_hall.specs.Halls as halls
-use Rattle.rbg_hall.specs.Serving.{has_ended}
+use Rattle.rbg_hall.specs.Serving.{StopsHall, has_ended}
+use Rattle.rbg_serving.specs.LogServing.{IsOverAt}
 use Rattle.rbg_hall.specs.Tables.{new_table}
 use Rattle.rbg_network.specs.Archives.{Handed}
 use Rattle.rbg_serving.proofs.Common.{Handles, Heard, Intake, Serves, Told, event_of}
 use Rattle.rbg_serving.specs.Heard.{IsTimed}
 use Rattle.rbg_serving.specs.Passing as passing
 use Rattle.rbg_serving.specs.declared.served.ServeError.{ServeError}
-use Rattle.rbg_serving.specs.declared.served.ServeError.TheVariants.{Memory, Rounds}
+use Rattle.rbg_serving.specs.declared.served.ServeError.TheVariants.{Handle, Rounds}
+use Rattle.rbg_serving.specs.declared.unhandled.HandleError.{HandleError}
+use Rattle.rbg_serving.specs.declared.unhandled.HandleError.TheVariants.{Memory, Log, Time}
 use Rattle.rbg_serving.specs.declared.served.Served.{Served}
 use Rattle.rbg_hosting.specs.Archives.{AreHandedOver, IsArchivedRun}
 use Rattle.rbg_hosting.specs.Archives.IsArchivedRun.{begins, hears}
@@ -23,7 +26,7 @@ use Rattle.rbg_hosting.specs.Records.{HasEnded}
 use Rattle.rbg_hosting.specs.declared.fault.ServingFault.{ServingFault}
 use Rattle.rbg_hosting.specs.declared.recorded_hall.RecordedHall.{RecordedHall}
 use Rattle.rbg_hosting.specs.declared.recorder.Recorder.{Recorder}
-use Rattle.rbg_hosting.specs.internal.Recorded.{AreNoted, HandsOver, HasArchived, HasArchivedAfter, HasHeard, HasSince, IsFresh, IsOfDevice, IsStopped, of_recorded, places}
+use Rattle.rbg_hosting.specs.internal.Recorded.{AreNoted, HandsOver, HasArchived, HasArchivedAfter, HasHeard, HasSince, IsFresh, IsOfDevice, IsStopped, RecordedStops, of_recorded, places}
 
 -- the events of what is heard after others, and of one more
 events_more : (since : ℕ) (earlier : List AbstractEvent) (heard : List Heard) (one : Heard) → (earlier ++ events_since since heard) ++ hall_event (later_event since (event_of one)) ∷ [] ≡ earlier ++ events_since since (heard ++ one ∷ [])
@@ -36,7 +39,7 @@ since_stays : {W A : Type 0} {told : A → List Handed → Type 0} {lines : ℕ}
     Handles (of_recorded told) lines old before heard new queued since →
     new.since ≡ old.since
 since_stays passing.nothing = refl
-since_stays (passing.more handles now one may step) = step.2 ∙ since_stays handles
+since_stays (passing.more handles now one may step) = step.same_since ∙ since_stays handles
 
 -- a run that goes on while this is heard has run through it
 run_through : {W A : Type 0} {told : A → List Handed → Type 0} {starts : List AbstractTable} {lines : ℕ} {old : RecordedHall W A} {before : List (List ℕ)} {heard : List Heard} {new : RecordedHall W A} {queued : List (List ℕ)} {since : List Intake} (earlier : List AbstractEvent) →
@@ -48,7 +51,7 @@ run_through {starts = starts} {new = new} {queued = queued} earlier run passing.
 run_through {starts = starts} {old = old} {new = new} {queued = queued} earlier run (passing.more {heard} handles now one may step) =
     subst (λ events. HasRun starts events new.hall.state queued) (events_more old.since earlier heard one)
     (subst (λ n. HasRun starts ((earlier ++ events_since old.since heard) ++ hall_event (later_event n (event_of one)) ∷ []) new.hall.state queued) (since_stays handles)
-    (run_on (run_through earlier run handles) step.0))
+    (run_on (run_through earlier run handles) step.hears))
 
 -- a hall that was served to its end
 pub ended_so : {W A : Type 0} {told : A → List Handed → Type 0} {starts : List AbstractTable} {past : List AbstractEvent} {rounds : ℕ} {before after : List Told} {moments : List ℕ} {old new : RecordedHall W A} {queued_before queued : List (List ℕ)} {served : Served} → HasRun starts past old.hall.state queued_before → Serves (of_recorded told) rounds before after moments old new queued_before queued (Ok served) → HasEnded starts new.hall.state
@@ -104,7 +107,7 @@ heard_through {told = told} {starts = starts} {matches = matches} {new = new} {q
 heard_through {told = told} {starts = starts} {matches = matches} {old = old} {new = new} {queued = queued} earlier so_far (passing.more {heard} handles now one may step) =
     subst (λ events. HasHeard told starts matches new.recorder events new.hall.state queued) (events_more old.since earlier heard one)
     (subst (λ n. HasHeard told starts matches new.recorder ((earlier ++ events_since old.since heard) ++ hall_event (later_event n (event_of one)) ∷ []) new.hall.state queued) (since_stays handles)
-    (heard_next (heard_through earlier so_far handles) step.0 step.1))
+    (heard_next (heard_through earlier so_far handles) step.hears step.hands))
 
 -- it has heard the same if only the moment is another from which its matches go on
 pub heard_again : {W A : Type 0} {told : A → List Handed → Type 0} {starts : List AbstractTable} {matches : ℕ} {events : List AbstractEvent} {queues : List (List ℕ)} (old new : RecordedHall W A) →
@@ -186,6 +189,18 @@ heard_so {past = past} {later = later} {state = state} goes_on so_far = record {
   archived = has_archived so_far;
 }
 
+-- an event that isn't handled leaves what was handed over
+same_recorder : {W A : Type 0} (old new : RecordedHall W A) (event : AbstractEvent) (error : HandleError) → RecordedStops old event error new → new.recorder ≡ old.recorder
+same_recorder old new event Time late = ap (λ (one : RecordedHall _ _). one.recorder) late.same
+same_recorder old new event Log fails = fails.0.same_recorder
+same_recorder old new event Memory fails = fails.0.same_recorder
+
+-- an event comes in time, and the hall doesn't hear it
+pub stops_in_time : {W A : Type 0} {told : W → List ℕ → Type 0} (old new : RecordedHall W A) (event : AbstractEvent) (error : HandleError) → ¬ IsOverAt old.until (moment_of event) → StopsHall told old.hall error new.hall → new.recorder ≡ old.recorder → new.since ≡ old.since → new.until ≡ old.until → RecordedStops old event error new
+stops_in_time old new event Log timely stops recorder since until = (record { timely = timely; same_recorder = recorder; same_since = since; same_until = until }, stops.1)
+stops_in_time old new event Memory timely stops recorder since until = (record { timely = timely; same_recorder = recorder; same_since = since; same_until = until }, stops.1)
+stops_in_time old new event Time timely stops recorder since until = absurd stops
+
 -- in a call that is served no more
 pub archived_until : {W A C : Type 0} {told : A → List Handed → Type 0} {clock_told : C → List ℕ → Type 0} {starts : List AbstractTable} {matches : ℕ} {past : List AbstractEvent} {rounds : ℕ} {before after : List Told} {moments : List ℕ} {old new : RecordedHall W A} {queued_before queued : List (List ℕ)} (clock : C) (error : ServeError) →
     HasSince old starts →
@@ -196,10 +211,10 @@ pub archived_until : {W A C : Type 0} {told : A → List Handed → Type 0} {clo
 archived_until {past = past} {moments = moments} {old = old} clock Rounds from so_far tells serves =
     heard_so (goes_on_so clock old serves.heard [] from (has_run so_far.run) tells (subst (IsTimed moments) (sym (append-nil serves.heard)) serves.timed))
     (heard_through past so_far serves.ends.0.handles)
-archived_until {told = told} {clock_told = clock_told} {starts = starts} {matches = matches} {past = past} {moments = moments} {old = old} {new = new} clock Memory from so_far tells serves =
+archived_until {told = told} {clock_told = clock_told} {starts = starts} {matches = matches} {past = past} {moments = moments} {old = old} {new = new} clock (Handle error) from so_far tells serves =
     elim serves.ends.1 [
-      | inl lacks ↦ subst (λ (recorder : Recorder _). StoppedSo told clock_told starts matches past recorder) (sym lacks.lacks)
-          (heard_so (goes_on_so clock old lacks.handled (lacks.refused ∷ []) from (has_run so_far.run) tells (subst (IsTimed moments) lacks.split serves.timed))
-          (heard_through past so_far lacks.handles))
-      | inr unheard ↦ subst (λ (one : RecordedHall _ _). StoppedSo told clock_told starts matches past one.recorder) (sym unheard.2) (unheard_so so_far)
+      | inl leaves ↦ subst (λ (recorder : Recorder _). StoppedSo told clock_told starts matches past recorder) (sym (same_recorder leaves.state new (event_of leaves.left) error leaves.stops))
+          (heard_so (goes_on_so clock old leaves.handled (leaves.left ∷ []) from (has_run so_far.run) tells (subst (IsTimed moments) leaves.split serves.timed))
+          (heard_through past so_far leaves.handles))
+      | inr unheard ↦ subst (λ (one : RecordedHall _ _). StoppedSo told clock_told starts matches past one.recorder) (sym unheard.3) (unheard_so so_far)
     ]

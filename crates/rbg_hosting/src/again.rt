@@ -1,5 +1,5 @@
 //! A match goes on from the script of its log.
-ghost use Rattle.std.specs.Prelude.{◌≡◌, [], length, IfOk, None};
+ghost use Rattle.std.specs.Prelude.{◌≡◌, [], length, false, IfOk, None};
 ghost use Rattle.rbg_game.specs.Loading.{Loads};
 ghost use Rattle.rbg_serving.specs.Logs.{IsLog};
 ghost use Rattle.rbg_match.specs.Matches.{HasHistory};
@@ -31,7 +31,7 @@ pub fn resume_match<W: Log>(
     ensures seats { IfOk result (λ made. length made.1 ≡ seats_of made.0.played.game) }
     ensures loads { IfOk result (λ made. Loads description.now made.0.played.game) }
     ensures until { IfOk result (λ made. made.0.until ≡ None) }
-    ensures stopped { IfOk result (λ made. made.0.stopped ≡ None) }
+    ensures works { IfOk result (λ made. made.0.log_failed ≡ false) }
     ensures history { IfOk result (λ made. HasHistory made.0.played) }
 {
     let mut line = Vec::new(alloc);

@@ -5,8 +5,7 @@ ghost use Rattle.rbg_hosting.specs.Played.{IsPlayedMatch};
 
 use crate::{Serving, ServingFault};
 use rbg_match::{Match, Outbox};
-use rbg_serving::{Clock, Line, Log, LoggedMatch, ServeError};
-use std::alloc::AllocError;
+use rbg_serving::{Clock, Line, Log, LoggedMatch};
 
 /// A match that goes on from a moment.
 #[derive(Drop)]
@@ -54,8 +53,7 @@ fn serve_rounds<W: Log, L: Line, C: Clock>(
 {
     match logged.serve(lines, outbox, clock, rounds) {
         Ok(_) => Ok(()),
-        Err(ServeError::Rounds) => Err(ServingFault::Rounds),
-        Err(ServeError::Memory) => Err(fault_of(logged)),
+        Err(error) => Err(ServingFault::from(error)),
     }
 }
 
@@ -69,13 +67,5 @@ fn begin_bound<W: Log>(logged: &mut LoggedMatch<W>, serving: &Serving<'_>, now: 
             u64::MAX
         }
         None => serving.rounds,
-    }
-}
-
-/// Why a match handles no more events.
-fn fault_of<W: Log>(logged: &LoggedMatch<W>) -> ServingFault {
-    match logged.stopped() {
-        Some(stop) => ServingFault::from(stop),
-        None => ServingFault::Memory(AllocError),
     }
 }

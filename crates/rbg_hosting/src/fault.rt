@@ -5,7 +5,7 @@ use rbg_match::MatchError;
 use rbg_network::GatherError;
 use rbg_referee::RefereeingError;
 use rbg_script::ScriptError;
-use rbg_serving::{LogFailure, OpenError, StopReason, WriteError};
+use rbg_serving::{HandleError, LogFailure, OpenError, ServeError, WriteError};
 use std::alloc::AllocError;
 use std::io::{self, ErrorKind};
 use thiserror::Error;
@@ -79,11 +79,21 @@ impl From<LogFailure> for ServingFault {
     }
 }
 
-impl From<StopReason> for ServingFault {
-    fn from(reason: StopReason) -> ServingFault {
-        match reason {
-            StopReason::Log => ServingFault::Device,
-            StopReason::Time => ServingFault::Rounds,
+impl From<HandleError> for ServingFault {
+    fn from(error: HandleError) -> ServingFault {
+        match error {
+            HandleError::Memory => ServingFault::Memory(AllocError),
+            HandleError::Log => ServingFault::Device,
+            HandleError::Time => ServingFault::Rounds,
+        }
+    }
+}
+
+impl From<ServeError> for ServingFault {
+    fn from(error: ServeError) -> ServingFault {
+        match error {
+            ServeError::Rounds => ServingFault::Rounds,
+            ServeError::Handle(error) => ServingFault::from(error),
         }
     }
 }

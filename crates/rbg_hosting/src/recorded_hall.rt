@@ -1,18 +1,18 @@
 //! A hall that hands the record of each match to an archive when the match ends, and whose time may be bounded.
-ghost use Rattle.std.specs.Prelude.{◌≡◌, ◌⊎◌, true, OnErr, OnOk};
+ghost use Rattle.std.specs.Prelude.{◌≡◌, ◌⊎◌, ◌↔◌, true, IsTrue, OnErr, OnOk};
 ghost use Rattle.rbg_script.specs.Events.{event_of};
 ghost use Rattle.rbg_hall.specs.Hearing.{HallHears};
 ghost use Rattle.rbg_hosting.specs.Moments.{later_event};
 ghost use Rattle.rbg_hosting.specs.declared.fault.ServingFault.{ServingFault};
 ghost use Rattle.rbg_hosting.specs.internal.Recorded.{HandsOver};
+ghost use Rattle.rbg_serving.specs.LogServing.{IsOverAt};
 
 use crate::ServingFault;
 use crate::recorder::Recorder;
-use rbg_base::Memory;
 use rbg_hall::{Hall, HallOut};
 use rbg_network::Archive;
 use rbg_script::Event;
-use rbg_serving::{Engine, Log, ServeError};
+use rbg_serving::{Engine, HandleError, Log, ServeError};
 use std::alloc::{AllocError, Global};
 
 /// A hall that hands the record of each match to an archive when the match has ended.
@@ -24,8 +24,6 @@ pub(crate) struct RecordedHall<W: Log, A: Archive> {
     since: u64,
     /// The first moment of the clock at which events aren't handled any more, if there is one.
     until: Option<u64>,
-    /// Whether an event came at that moment or later.
-    late: bool,
 }
 
 impl<W: Log, A: Archive> RecordedHall<W, A> {
@@ -43,7 +41,6 @@ impl<W: Log, A: Archive> RecordedHall<W, A> {
             recorder,
             since: 0,
             until,
-            late: false,
         }
     }
 
@@ -71,7 +68,11 @@ impl<W: Log, A: Archive> RecordedHall<W, A> {
     }
 
     /// Hears an event of the past, at whatever moment, and hands over what is to be handed over then.
-    pub(crate) fn hear(&mut self, event: &Event<&[u8]>, out: &mut HallOut) -> Result<(), Memory>
+    pub(crate) fn hear(
+        &mut self,
+        event: &Event<&[u8]>,
+        out: &mut HallOut,
+    ) -> Result<(), HandleError>
         ensures hears { OnOk result (HallHears self.old.hall.state (event_of event.now) self.new.hall.state out.old out.new
             × HandsOver A.handed self.old.recorder self.new.recorder
             self.old.hall.state.tables self.new.hall.state.tables) }
@@ -89,20 +90,15 @@ impl<W: Log, A: Archive> RecordedHall<W, A> {
         self.recorder.into_archive()
     }
 
-    /// Why it is served no more. Where a log failed, or the time is over, that is the reason, and a record that is lost comes
-    /// before memory.
+    /// Why it is served no more. A record that is lost comes before memory.
     pub(crate) fn fault_of(&self, error: ServeError) -> ServingFault
         ensures { self.now.recorder.lost ≡ true → (result ≡ ServingFault.Device) ⊎ (result ≡ ServingFault.Rounds) }
     {
-        if self.hall.has_log_failed() {
-            return ServingFault::Device;
-        }
-        if self.late {
-            return ServingFault::Rounds;
-        }
         match error {
             ServeError::Rounds => ServingFault::Rounds,
-            ServeError::Memory => self.fault_of_memory(),
+            ServeError::Handle(HandleError::Memory) => self.fault_of_memory(),
+            ServeError::Handle(HandleError::Log) => ServingFault::Device,
+            ServeError::Handle(HandleError::Time) => ServingFault::Rounds,
         }
     }
 
@@ -128,16 +124,14 @@ impl<W: Log, A: Archive> RecordedHall<W, A> {
         }
     }
 
-    /// Notes whether the time is over when an event comes at this moment. Returns whether it is.
-    fn note_late(&mut self, at: u64) -> bool
-        ensures hall { self.new.hall ≡ self.old.hall }
-        ensures recorder { self.new.recorder ≡ self.old.recorder }
-        ensures since { self.new.since ≡ self.old.since }
+    /// Whether the time for its matches is over when an event comes at this moment of the clock.
+    fn is_over_at(&self, at: u64) -> bool
+        ensures { IsTrue result ↔ IsOverAt self.now.until at }
     {
-        if let Some(until) = self.until {
-            self.late = until <= at;
+        match self.until {
+            Some(until) => until <= at,
+            None => false,
         }
-        self.late
     }
 }
 
@@ -182,17 +176,17 @@ impl<W: Log, A: Archive> Engine for RecordedHall<W, A> {
 
     ghost first_due = { λ recorded due. IsDueSince recorded.since recorded.hall.state.tables due };
 
-    fn handle(&mut self, event: Event<&[u8]>, outbox: &mut HallOut) -> Result<(), Memory> {
-        if self.note_late(event.at()) {
-            return Err(Memory);
+    fn handle(&mut self, event: Event<&[u8]>, outbox: &mut HallOut) -> Result<(), HandleError> {
+        if self.is_over_at(event.at()) {
+            return Err(HandleError::Time);
         }
         self.hall.handle(later(event, self.since), outbox)?;
         self.recorder.hand_over(&self.hall);
         Ok(())
     }
 
-    fn listens(&self, seat: usize) -> bool {
-        self.hall.listens(seat)
+    fn listens(&self, line: usize) -> bool {
+        self.hall.listens(line)
     }
 
     fn is_over(&self) -> bool {

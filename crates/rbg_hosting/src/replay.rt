@@ -194,13 +194,13 @@ fn add_events<'a>(
         ++ map (λ event. heard_on seats.line seats.players (owned_event_of event)) script.now) }
 {
     for event in script {
-        events.push(event_of(event, seats))?;
+        events.push(heard_event(event, seats))?;
     }
     Ok(())
 }
 
 /// What a hall hears of an event of a script.
-fn event_of(event: &Event<Vec<u8>>, seats: Seats) -> Event<&[u8]>
+fn heard_event(event: &Event<Vec<u8>>, seats: Seats) -> Event<&[u8]>
     requires { seats.line + seats.players < 2 ^ 64 }
     ensures { event_of result ≡ heard_on seats.line seats.players (owned_event_of event.now) }
 {
@@ -211,7 +211,7 @@ fn event_of(event: &Event<Vec<u8>>, seats: Seats) -> Event<&[u8]>
             bytes,
         } => piece_of(line_of(*seat, seats), *at, bytes, seats),
         Event::Ended { source: seat, at } => end_of(line_of(*seat, seats), *at, seats),
-        Event::Tick { at } => moment_of(*at, seats),
+        Event::Tick { at } => empty_piece(*at, seats),
     }
 }
 
@@ -225,7 +225,7 @@ fn piece_of(line: Option<u64>, at: u64, bytes: &[u8], seats: Seats) -> Event<&[u
             at,
             bytes,
         },
-        None => moment_of(at, seats),
+        None => empty_piece(at, seats),
     }
 }
 
@@ -235,12 +235,12 @@ fn end_of<'a>(line: Option<u64>, at: u64, seats: Seats) -> Event<&'a [u8]>
 {
     match line {
         Some(line) => Event::Ended { source: line, at },
-        None => moment_of(at, seats),
+        None => empty_piece(at, seats),
     }
 }
 
-/// A moment, as the match alone hears it.
-fn moment_of<'a>(at: u64, seats: Seats) -> Event<&'a [u8]>
+/// A moment, as the match alone hears it: its first line sends nothing.
+fn empty_piece<'a>(at: u64, seats: Seats) -> Event<&'a [u8]>
     ensures { event_of result ≡ piece seats.line at [] }
 {
     Event::Piece {
@@ -281,7 +281,7 @@ fn hear_all<W: Log, A: Archive>(
     for event in events {
         match recorded.hear(event, out) {
             Ok(()) => (),
-            Err(_) => return Err(recorded.fault_of(ServeError::Memory)),
+            Err(error) => return Err(recorded.fault_of(ServeError::Handle(error))),
         }
     }
     Ok(())

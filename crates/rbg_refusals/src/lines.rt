@@ -57,7 +57,8 @@ pub fn tell_served<W: Write>(
             facts.truth(", whole", served.whole);
             tell_taken(lines, facts);
         }
-        Err(ServeError::Memory) => {
+        // A log in memory fails, too, only where memory was refused.
+        Err(ServeError::Handle(_)) => {
             facts.memory();
             tell_beginnings(lines, queued, facts);
         }

@@ -6,6 +6,7 @@ use rbg_hall::HallError;
 use rbg_macro::TextError;
 use rbg_match::MatchError;
 use rbg_moves::Over;
+use rbg_serving::WriteError;
 use rbg_wire::WireError;
 use std::alloc::AllocFailed;
 
@@ -75,6 +76,13 @@ impl From<HallError> for Stop {
             HallError::Memory => Stop::Setup,
             HallError::Tables | HallError::Config { .. } => Stop::Wrong,
         }
+    }
+}
+
+/// A log in memory fails only where memory was refused.
+impl From<WriteError> for Stop {
+    fn from(_error: WriteError) -> Stop {
+        Stop::Setup
     }
 }
 

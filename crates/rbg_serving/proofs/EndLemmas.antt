@@ -3,8 +3,9 @@ use Rattle.rbg_base.proofs.Common.{◌≡◌, ℕ, ◌+◌, ◌<◌, ◌≤◌, 
 use Rattle.std.proofs.lemmas.List.{length-replicate, take-append-drop, length-take-le, length-map}
 use Rattle.std.proofs.lemmas.List.FromFn.{get_or-map-range_with_len, length-range_with_len}
 use Rattle.rbg_serving.specs.Heard as heard
-use Rattle.rbg_serving.proofs.Common.{LineState, Served, ServeError, Rounds, Memory, Start, InCall, Passed, LacksMemoryInCall, WithMoments, Heard, IsTimed, IsOfLiveLines, Behaviour, Intake, no_intake, intake_at, queued_at, AllHandled, IsServed, TookAll, IsWhole, IsOver, EndsServing, ServesOver, Told, nothing_told, told_at, Tells, TellEach, has_taken, has_said, IsLineServed, AreServed, absent, at_first, HasAll, LiveHaveAll}
+use Rattle.rbg_serving.proofs.Common.{LineState, Served, ServeError, Rounds, Handle, HandleError, OnHandled, Start, InCall, Passed, LeavesLastInCall, WithMoments, Heard, IsTimed, IsOfLiveLines, Behaviour, Intake, no_intake, intake_at, queued_at, AllHandled, IsServed, TookAll, IsWhole, IsOver, EndsServing, ServesOver, Told, nothing_told, told_at, Tells, TellEach, has_taken, has_said, IsLineServed, AreServed, absent, at_first, HasAll, LiveHaveAll}
 use Rattle.rbg_serving.specs.Passing as passing
+use Rattle.rbg_serving.specs.declared.unhandled.HandleError.TheVariants.{Memory}
 use Rattle.rbg_serving.proofs.LinesLemmas.{item_at}
 
 -- what a line tells that has come so far
@@ -196,9 +197,13 @@ whole_is told failure_count before heard queued lines states intakes whole are t
       has_all before heard queued states intakes index place is.within (all index place)),
 )
 
--- an answer that is out of memory
-pub is_memory : (result : Result Served ServeError) → IsErrAnd result (λ error. error ≡ Memory) → result ≡ Err Memory
-is_memory result is = let error = err_from_is_err_and result is in error.1 ∙ ap (λ e. Err e) error.2
+-- an answer that is this error
+pub is_unhandled : (result : Result Served ServeError) (error : HandleError) → IsErrAnd result (λ other. other ≡ Handle error) → result ≡ Err (Handle error)
+is_unhandled result error is = let other = err_from_is_err_and result is in other.1 ∙ ap (λ e. Err e) other.2
+
+-- nothing is said of such an answer that holds where all was handled
+pub not_handled : (P : Type 0) (result : Result Served ServeError) (error : HandleError) → IsErrAnd result (λ other. other ≡ Handle error) → OnHandled result P
+not_handled P result error is = subst (λ (one : Result Served ServeError). OnHandled one P) (sym (is_unhandled result error is)) tt
 
 -- all that was heard is handled, and all was offered
 handled_all : {L S : Type 0} {told : L → Told → Type 0} {failure_count : L → ℕ} {engine : Behaviour S} {start : Start S}
@@ -270,18 +275,18 @@ module _ {L C S : Type 0} {told : L → Told → Type 0} {failure_count : L → 
         call.count ∙ all,
       )
 
-  -- a call that ran out of memory
+  -- a call in which the last that was heard isn't handled
   pub ends_short : {done rounds : ℕ} {lines : List L} {states : List LineState} {clock : C} {state : S} {queued : List (List ℕ)}
-      (result : Result Served ServeError) →
-      IsErrAnd result (λ error. error ≡ Memory) →
+      (result : Result Served ServeError) (error : HandleError) →
+      IsErrAnd result (λ other. other ≡ Handle error) →
       done ≤ rounds →
-      WithMoments clock_told start.asked clock (λ moments. LacksMemoryInCall told failure_count engine start moments done lines states state queued) →
+      WithMoments clock_told start.asked clock (λ moments. LeavesLastInCall told failure_count engine start moments done lines states state queued error) →
       ServesOver told failure_count clock_told engine lines clock rounds start.told start.asked start.state state start.queued queued result
-  ends_short {rounds = rounds} {lines = lines} {clock = clock} {state = state} {queued = queued} result is fits call =
+  ends_short {rounds = rounds} {lines = lines} {clock = clock} {state = state} {queued = queued} result error is fits call =
       subst (ServesOver told failure_count clock_told engine lines clock rounds start.told start.asked start.state state start.queued queued)
-      (sym (is_memory result is))
+      (sym (is_unhandled result error is))
       (ends call.moments call.holds.heard call.holds.intakes call.clock_tells call.holds.timed call.holds.live call.holds.served
-      (omega (arith, call.holds.count, fits), inl call.holds.lacks))
+      (omega (arith, call.holds.count, fits), inl call.holds.leaves))
 
 -- nothing was heard
 pub ends_at_once : {L C S : Type 0} (told : L → Told → Type 0) (failure_count : L → ℕ) (clock_told : C → List ℕ → Type 0)
@@ -289,11 +294,11 @@ pub ends_at_once : {L C S : Type 0} (told : L → Told → Type 0) (failure_coun
     (queued : List (List ℕ)) (result : Result Served ServeError) →
     TellEach told failure_count lines before →
     clock_told clock moments →
-    IsErrAnd result (λ error. error ≡ Memory) →
+    IsErrAnd result (λ error. error ≡ Handle Memory) →
     ServesOver told failure_count clock_told engine lines clock rounds before moments state state queued queued result
 ends_at_once told failure_count clock_told engine rounds lines clock before moments state queued result lines_tell clock_tells is =
     subst (ServesOver told failure_count clock_told engine lines clock rounds before moments state state queued queued)
-    (sym (is_memory result is))
+    (sym (is_unhandled result Memory is))
     record {
       after = before;
       moments = [];
@@ -315,7 +320,7 @@ ends_at_once told failure_count clock_told engine rounds lines clock before mome
           as_many = refl;
           stalls = plus_nothing (told_at before index).stalls;
         };
-        ends = (omega arith, inr (refl, refl, refl, refl));
+        ends = (omega arith, inr (refl, refl, refl, refl, refl));
       };
     }
   where

@@ -1,7 +1,7 @@
 -- Lemmas on the middle of a call.
 use Rattle.std.proofs.Common.{◌≡◌, ◌≢◌, ℕ, ◌+◌, ◌<◌, ◌≤◌, List, [], ◌∷◌, ◌++◌, length, true, false, sym, refl, subst, arith, append_assoc, Result, Ok, Err, IsErrAnd, MatchResult, ◌⊎◌, inl, inr}
 use Rattle.rbg_script.specs.Events.{AbstractEvent, end_of_stream, moment_alone}
-use Rattle.rbg_serving.proofs.Common.{LineState, Heard, failed_to_take, round_over, is_round_over, IsLive, IsTimed, asked, heard_alone, heard_with_it, of_line, of_clock, Behaviour, Intake, intake_at, queued_at, ComeBefore, ExtendAll, MayComeNext, Handles, more, Told, Start, InCall, Passed, HeardLast, LacksMemoryInCall, WithMoments, AreServed, AreServedFrom, ArePassed}
+use Rattle.rbg_serving.proofs.Common.{LineState, Heard, failed_to_take, round_over, is_round_over, IsLive, IsTimed, asked, heard_alone, heard_with_it, of_line, of_clock, Behaviour, Intake, intake_at, queued_at, ComeBefore, ExtendAll, MayComeNext, Handles, more, Told, Start, InCall, Passed, HeardLast, LeavesLastInCall, WithMoments, AreServed, AreServedFrom, ArePassed, HandleError}
 use Rattle.rbg_serving.proofs.HeardLemmas.{of_another, count_more}
 use Rattle.rbg_serving.proofs.LinesLemmas.{more_queued, heard_of_none}
 
@@ -25,16 +25,16 @@ zero_is_no_seat : (index : ℕ) → 0 ≢ index + 1
 zero_is_no_seat index e = omega (arith, e)
 
 -- what holds of either answer, weakened
-pub either : {T E P Q R S : Type 0} (result : Result T E) → (P → R) → (Q → S) →
-    MatchResult result (λ _. P) (λ _. Q) → MatchResult result (λ _. R) (λ _. S)
+pub either : {T E P R : Type 0} {Q S : E → Type 0} (result : Result T E) → (P → R) → ((error : E) → Q error → S error) →
+    MatchResult result (λ _. P) Q → MatchResult result (λ _. R) S
 either (Ok value) well badly holds = well holds
-either (Err error) well badly holds = badly holds
+either (Err error) well badly holds = badly error holds
 
 -- what holds of an error
-pub on_error : {T E Q : Type 0} (P : Type 0) (Error : E → Type 0) (result : Result T E) → IsErrAnd result Error → Q →
-    MatchResult result (λ _. P) (λ _. Q)
-on_error P Error (Ok value) is holds = absurd is
-on_error P Error (Err error) is holds = holds
+pub on_error : {T E : Type 0} (P : Type 0) (Q : E → Type 0) (result : Result T E) (error : E) → IsErrAnd result (λ other. other ≡ error) → Q error →
+    MatchResult result (λ _. P) Q
+on_error P Q (Ok value) error is holds = absurd is
+on_error P Q (Err other) error is holds = subst Q (sym is) holds
 
 -- the clock has told one more moment
 pub one_more_moment : {C : Type 0} {told : C → List ℕ → Type 0} {before : List ℕ} {old clock : C} {Held Holds : List ℕ → Type 0} (at : ℕ) →
@@ -49,12 +49,12 @@ one_more_moment {told = told} {before = before} {clock = clock} at tells call ho
 }
 
 -- the same of either answer
-pub either_with_one_more : {T E C : Type 0} {told : C → List ℕ → Type 0} {before : List ℕ} {old : C} {Held : List ℕ → Type 0} (clock : C) (Holds Lacks : List ℕ → Type 0) (result : Result T E) (at : ℕ) →
+pub either_with_one_more : {T E C : Type 0} {told : C → List ℕ → Type 0} {before : List ℕ} {old : C} {Held : List ℕ → Type 0} (clock : C) (Holds : List ℕ → Type 0) (Leaves : E → List ℕ → Type 0) (result : Result T E) (at : ℕ) →
     ((so_far : List ℕ) → told old so_far → told clock (so_far ++ at ∷ [])) →
     (call : WithMoments told before old Held) →
-    MatchResult result (λ _. Holds (call.moments ++ at ∷ [])) (λ _. Lacks (call.moments ++ at ∷ [])) →
-    MatchResult result (λ _. WithMoments told before clock Holds) (λ _. WithMoments told before clock Lacks)
-either_with_one_more clock Holds Lacks result at tells call holds = either result (one_more_moment at tells call) (one_more_moment at tells call) holds
+    MatchResult result (λ _. Holds (call.moments ++ at ∷ [])) (λ error. Leaves error (call.moments ++ at ∷ [])) →
+    MatchResult result (λ _. WithMoments told before clock Holds) (λ error. WithMoments told before clock (Leaves error))
+either_with_one_more clock Holds Leaves result at tells call holds = either result (one_more_moment at tells call) (λ _. one_more_moment at tells call) holds
 
 -- a clock that waited has told no more
 pub waited : {C : Type 0} {told : C → List ℕ → Type 0} {before : List ℕ} {old clock : C} {Holds : List ℕ → Type 0} →
@@ -87,27 +87,27 @@ module _ {L S : Type 0} {told : L → Told → Type 0} {failure_count : L → �
         last.fits extends last.served;
   }
 
-  -- there was no memory for it
-  pub refused : {moments : List ℕ} {rounds : ℕ} {lines : List L} {states : List LineState} {state new : S}
-      {queued now : List (List ℕ)} {event : AbstractEvent} →
+  -- it wasn't handled
+  pub unhandled : {moments : List ℕ} {rounds : ℕ} {lines : List L} {states : List LineState} {state new : S}
+      {queued now : List (List ℕ)} {event : AbstractEvent} {error : HandleError} →
       HeardLast told failure_count engine start moments rounds lines states state queued event →
       now ≡ queued →
-      engine.lacks state new →
-      LacksMemoryInCall told failure_count engine start moments rounds lines states new now
-  refused {lines = lines} {states = states} {state = state} last same lacks = record {
+      engine.stops state event error new →
+      LeavesLastInCall told failure_count engine start moments rounds lines states new now error
+  unhandled {lines = lines} {states = states} {state = state} {new = new} {error = error} last same stops = record {
     course = record { heard = last.before ++ last.one ∷ []; timed = last.timed; live = last.live };
     count = omega (arith, last.count);
     intakes = last.intakes;
     served = subst (λ bytes. AreServed told failure_count start.told (last.before ++ last.one ∷ []) bytes lines states last.intakes) (sym same) last.served;
-    lacks = record {
+    leaves = record {
       handled = last.before;
-      refused = last.one;
+      left = last.one;
       split = refl;
       state = state;
       since = last.since;
       handles = subst (λ bytes. Handles engine (length start.told) start.state start.queued last.before state bytes last.since) (sym same) last.handles;
       next = subst (λ bytes. MayComeNext engine (length start.told) last.before state bytes last.since last.intakes last.one) (sym same) last.may;
-      lacks = lacks;
+      stops = subst (λ one. engine.stops state one error new) (sym last.is_event) stops;
     };
   }
 
@@ -228,9 +228,9 @@ module _ {L S : Type 0} {told : L → Told → Type 0} {failure_count : L → �
 
   -- more rounds are allowed
   pub one_round_more : {C : Type 0} {clock_told : C → List ℕ → Type 0} {rounds : ℕ} {lines : List L}
-      {states : List LineState} {clock : C} {state : S} {queued : List (List ℕ)} →
-      WithMoments clock_told start.asked clock (λ moments. LacksMemoryInCall told failure_count engine start moments rounds lines states state queued) →
-      WithMoments clock_told start.asked clock (λ moments. LacksMemoryInCall told failure_count engine start moments (rounds + 1) lines states state queued)
+      {states : List LineState} {clock : C} {state : S} {queued : List (List ℕ)} {error : HandleError} →
+      WithMoments clock_told start.asked clock (λ moments. LeavesLastInCall told failure_count engine start moments rounds lines states state queued error) →
+      WithMoments clock_told start.asked clock (λ moments. LeavesLastInCall told failure_count engine start moments (rounds + 1) lines states state queued error)
   one_round_more call = record {
     moments = call.moments;
     clock_tells = call.clock_tells;
@@ -239,6 +239,6 @@ module _ {L S : Type 0} {told : L → Told → Type 0} {failure_count : L → �
       count = omega (arith, call.holds.count);
       intakes = call.holds.intakes;
       served = call.holds.served;
-      lacks = call.holds.lacks;
+      leaves = call.holds.leaves;
     };
   }

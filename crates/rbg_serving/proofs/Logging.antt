@@ -1,5 +1,5 @@
 -- The log of a match through a call.
-use Rattle.rbg_base.proofs.Common.{◌≡◌, ◌⊎◌, inl, inr, ℕ, ◌<◌, ◌^◌, List, [], ◌∷◌, ◌++◌, length, map, take, All, Result, Ok, Err, refl, sym, ap, ◌∙◌, subst, arith, append-nil, OnOk, OnErr, All-nil, All-append, flat_map-append}
+use Rattle.rbg_base.proofs.Common.{◌≡◌, ◌⊎◌, inl, inr, ℕ, ◌<◌, ◌^◌, true, false, List, [], ◌∷◌, ◌++◌, length, map, take, All, Result, Ok, Err, refl, sym, ap, ◌∙◌, subst, arith, append-nil, All-nil, All-append, flat_map-append}
 use Rattle.std.proofs.lemmas.List.{map-append, take_all}
 use Rattle.rbg_game.specs.Loading.{Loads}
 use Rattle.rbg_rules.specs.Meaning.{AbstractGame}
@@ -10,18 +10,21 @@ use Rattle.rbg_referee.specs.Played.{IsMatchOf}
 use Rattle.rbg_referee.proofs.RefereedLemmas.{refereed_with}
 use Rattle.rbg_referee.specs.Scripts.{config_for}
 use Rattle.rbg_script.specs.Config.{ConfigHasSpelling, config_text}
-use Rattle.rbg_script.specs.Events.{EventHasSpelling, event_text, AbstractEvent, moment_alone, moment_of}
+use Rattle.rbg_script.specs.Events.{EventHasSpelling, event_text, AbstractEvent, moment_alone}
 use Rattle.rbg_script.specs.Scripts.{AbstractScript, ScriptHasSpelling, script_text}
 use Rattle.rbg_script.proofs.Lacking.{written_read}
 use Rattle.rbg_wire.specs.Lines.{line_of, lines_of}
 use Rattle.rbg_serving.specs.declared.served.Served.{Served}
 use Rattle.rbg_serving.specs.declared.served.ServeError.{ServeError}
-use Rattle.rbg_serving.specs.declared.served.ServeError.TheVariants.{Rounds, Memory}
-use Rattle.rbg_serving.proofs.Common.{Heard, Intake, Handles, ServesOver, EndsServing, LacksMemory, Told}
+use Rattle.rbg_serving.specs.declared.served.ServeError.TheVariants.{Rounds, Handle}
+use Rattle.rbg_serving.specs.declared.unhandled.HandleError.{HandleError}
+use Rattle.rbg_serving.specs.declared.unhandled.HandleError.TheVariants.{Memory, Log, Time}
+use Rattle.rbg_serving.proofs.Common.{Heard, Intake, Handles, ServesOver, EndsServing, LeavesLast, OnHandled, Told, event_of}
 use Rattle.rbg_serving.specs.Passing as passing
 use Rattle.rbg_serving.specs.declared.logged.LoggedMatch.{LoggedMatch}
 use Rattle.rbg_serving.specs.Logs.{Appends, IsLog, Logs, LogsPart, event_lines, first_line}
-use Rattle.rbg_serving.specs.LogServing.{IsOverAt, IsTimed, LeavesLog, LogLacks, LogSteps, of_log}
+use Rattle.rbg_serving.specs.LogServing.{IsUnwritten, IsWrittenAlone, LeavesLog, LogStops, LogSteps, of_log}
+use Rattle.rbg_serving.specs.internal.Writing.{IsWrittenFirst}
 use Rattle.rbg_serving.specs.Written.{written}
 use Rattle.rbg_serving.proofs.Replaying.{Stands, stands_on, stands_at_start, first_moment_small}
 
@@ -79,6 +82,55 @@ log_begins game text config now state outbox loads fits opens =
     (is_log text script has state outbox (record { game = game; loads = loads; opens = opens }) state outbox
     (stands_at_start state outbox (first_moment_small game text config now state outbox opens)))
 
+-- what is left of an event that was written, and handled or not
+pub whole_part : {W : Type 0} (told : W → List ℕ → Type 0) (old new : W) (events : List AbstractEvent) → Logs told old new events → LogsPart told old new events
+whole_part told old new events logs = record {
+  count = length (event_lines events);
+  part = λ held tells. subst (λ (bytes : List ℕ). told new (held ++ bytes)) (sym (take_all (length (event_lines events)) (event_lines events) (omega arith))) (logs.lines held tells);
+}
+
+pub no_part : {W : Type 0} (told : W → List ℕ → Type 0) (log : W) (events : List AbstractEvent) → LogsPart told log log events
+no_part told log events = record { count = 0; part = λ held tells. subst (told log) (sym (append-nil held)) tells }
+
+pub nothing_logged : {W : Type 0} (told : W → List ℕ → Type 0) (log : W) → Logs told log log []
+nothing_logged told log = record { lines = λ held tells. subst (told log) (sym (append-nil held)) tells; spelled = All-nil EventHasSpelling }
+
+-- no more than a front part of its lines is left of an event that isn't handled
+left_of : {W : Type 0} (told : W → List ℕ → Type 0) (old new : LoggedMatch W) (event : AbstractEvent) → IsUnwritten old new ⊎ IsWrittenAlone told old event new → LogsPart told old.log new.log (written old.played event)
+left_of told old new event (inl unwritten) = subst (λ log. LogsPart told old.log log (written old.played event)) (sym unwritten.0) (no_part told old.log (written old.played event))
+left_of told old new event (inr alone) = whole_part told old.log new.log (written old.played event) alone.0
+
+stopped_part : {W : Type 0} (told : W → List ℕ → Type 0) (old new : LoggedMatch W) (event : AbstractEvent) (error : HandleError) → LogStops told old event error new → LogsPart told old.log new.log (written old.played event)
+stopped_part told old new event Time late = subst (λ (one : LoggedMatch _). LogsPart told old.log one.log (written old.played event)) (sym late.same) (no_part told old.log (written old.played event))
+stopped_part told old new event Log fails = fails.part
+stopped_part told old new event Memory lacks = left_of told old new event lacks.left
+
+-- what holds of any answer
+on_handled : {P : Type 0} (result : Result Served ServeError) → P → OnHandled result P
+on_handled (Ok served) holds = holds
+on_handled (Err Rounds) holds = holds
+on_handled (Err (Handle error)) holds = tt
+
+-- an event that is written first is handled, or the match fails
+pub handled_so : {W : Type 0} (told : W → List ℕ → Type 0) (old middle new : LoggedMatch W) (event : AbstractEvent) (before after : List (List ℕ)) → IsWrittenFirst told old event middle → middle.played ≡ old.played → new.until ≡ middle.until → new.log_failed ≡ middle.log_failed → new.log ≡ middle.log → Steps middle.played event new.played before after → LogSteps told old event new before after
+handled_so told old middle new event before after first played until failed log steps = record {
+  timely = first.timely;
+  same_until = until ∙ first.same_until;
+  worked = first.worked;
+  works_still = failed ∙ first.works_still;
+  logs = subst (λ one. Logs told old.log one (written old.played event)) (sym log) first.logs;
+  steps = subst (λ (one : MatchState). Steps one event new.played before after) played steps;
+}
+
+pub written_alone : {W : Type 0} (told : W → List ℕ → Type 0) (old middle new : LoggedMatch W) (event : AbstractEvent) → IsWrittenFirst told old event middle → middle.played ≡ old.played → new.until ≡ middle.until → new.log_failed ≡ middle.log_failed → new.log ≡ middle.log → new.played.failed ≡ true → new.played.game ≡ middle.played.game → LogStops told old event Memory new
+written_alone told old middle new event first played until failed log fails game = record {
+  timely = first.timely;
+  worked = first.worked;
+  works_still = failed ∙ first.works_still;
+  same_until = until ∙ first.same_until;
+  left = inr (subst (λ one. Logs told old.log one (written old.played event)) (sym log) first.logs, fails, game ∙ ap (λ (state : MatchState). state.game) played);
+}
+
 -- a match with its log, told by the log
 record HasLog {W : Type 0} (told : W → List ℕ → Type 0) (text : List ℕ) (logged : LoggedMatch W) (queued : List (List ℕ)) : Type 0 where
   held : List ℕ
@@ -105,29 +157,30 @@ module _ {W : Type 0} (told : W → List ℕ → Type 0) (text : List ℕ) where
     handled = new.played;
     is_log = has.is;
     part = record { event = moment_alone 0; count = 0; is = refl };
-    all = λ _. (refl, refl);
+    all = on_handled result (refl, refl);
   }
 
-  left_part : {state new : LoggedMatch W} {queued : List (List ℕ)} → HasLog told text state queued → LogLacks told state new → LeavesLog told text new queued (Err Memory)
-  left_part {state} {new} {queued} has lacks = record {
+  left_part : {state new : LoggedMatch W} {queued : List (List ℕ)} (error : HandleError) (event : AbstractEvent) → HasLog told text state queued → LogsPart told state.log new.log (written state.played event) → LeavesLog told text new queued (Err (Handle error))
+  left_part {state} {new} {queued} error event has front = record {
     held = has.held;
-    beyond = take lacks.part.count (event_lines (written state.played lacks.event));
-    tells = lacks.part.part has.held has.tells;
+    beyond = take front.count (event_lines (written state.played event));
+    tells = front.part has.held has.tells;
     handled = state.played;
     is_log = has.is;
-    part = record { event = lacks.event; count = lacks.part.count; is = refl };
-    all = λ other. absurd (other refl);
+    part = record { event = event; count = front.count; is = refl };
+    all = tt;
   }
 
-  memory_logged : {old new : LoggedMatch W} {heard : List Heard} {intakes : List Intake} {lines : ℕ} {queued_before queued : List (List ℕ)} → HasLog told text old queued_before → LacksMemory (of_log told) lines heard intakes old new queued_before queued ⊎ ((heard ≡ []) × (intakes ≡ []) × (new ≡ old) × (queued ≡ queued_before)) → LeavesLog told text new queued (Err Memory)
-  memory_logged has (inl lacks) = left_part (all_logged has lacks.handles) lacks.lacks
-  memory_logged {old} {new} {queued = queued} has (inr (nothing, none, same, kept)) =
-      left_whole (Err Memory) (subst (λ (one : LoggedMatch W). HasLog told text one queued) (sym same) (subst (λ (box : List (List ℕ)). HasLog told text old box) (sym kept) has))
+  unhandled_logged : {old new : LoggedMatch W} {heard : List Heard} {intakes : List Intake} {lines : ℕ} {queued_before queued : List (List ℕ)} (error : HandleError) → HasLog told text old queued_before → LeavesLast (of_log told) lines heard intakes error old new queued_before queued ⊎ ((error ≡ Memory) × (heard ≡ []) × (intakes ≡ []) × (new ≡ old) × (queued ≡ queued_before)) → LeavesLog told text new queued (Err (Handle error))
+  unhandled_logged {new = new} error has (inl leaves) =
+      left_part error (event_of leaves.left) (all_logged has leaves.handles) (stopped_part told leaves.state new (event_of leaves.left) error leaves.stops)
+  unhandled_logged {old} {new} {queued = queued} error has (inr (memory, nothing, none, same, kept)) =
+      left_whole (Err (Handle error)) (subst (λ (one : LoggedMatch W). HasLog told text one queued) (sym same) (subst (λ (box : List (List ℕ)). HasLog told text old box) (sym kept) has))
 
   ends_logged : {old new : LoggedMatch W} (rounds : ℕ) (heard : List Heard) (intakes : List Intake) (before after : List Told) {queued_before queued : List (List ℕ)} (result : Result Served ServeError) → HasLog told text old queued_before → EndsServing (of_log told) rounds heard intakes before after old new queued_before queued result → LeavesLog told text new queued result
   ends_logged rounds heard intakes before after (Ok served) has ends = left_whole (Ok served) (all_logged has ends.0.handles)
   ends_logged rounds heard intakes before after (Err Rounds) has ends = left_whole (Err Rounds) (all_logged has ends.0.handles)
-  ends_logged rounds heard intakes before after (Err Memory) has ends = memory_logged has ends.1
+  ends_logged rounds heard intakes before after (Err (Handle error)) has ends = unhandled_logged error has ends.1
 
 -- what a call leaves of a log
 pub leaves : {L C W : Type 0} (told : L → Told → Type 0) (failure_count : L → ℕ) (clock_told : C → List ℕ → Type 0) (log_told : W → List ℕ → Type 0) (lines : List L) (clock : C) (rounds : ℕ) (before : List Told) (asked : List ℕ) (old new : LoggedMatch W) (queued_before queued : List (List ℕ)) (result : Result Served ServeError) → ServesOver told failure_count clock_told (of_log log_told) lines clock rounds before asked old new queued_before queued result → (text held : List ℕ) → log_told old.log held → IsLog text held old.played queued_before → LeavesLog log_told text new queued result
@@ -143,35 +196,6 @@ resumed_log text script state outbox played has =
       replays = record { same = refl; earlier = omega arith; ended = λ outcome ended. refl };
       small = played.history.counted;
     })
-
--- what is left of an event that was written, and handled or not
-pub whole_part : {W : Type 0} (told : W → List ℕ → Type 0) (old new : W) (events : List AbstractEvent) → Logs told old new events → LogsPart told old new events
-whole_part told old new events logs = record {
-  count = length (event_lines events);
-  part = λ held tells. subst (λ (bytes : List ℕ). told new (held ++ bytes)) (sym (take_all (length (event_lines events)) (event_lines events) (omega arith))) (logs.lines held tells);
-}
-
-pub no_part : {W : Type 0} (told : W → List ℕ → Type 0) (log : W) (events : List AbstractEvent) → LogsPart told log log events
-no_part told log events = record { count = 0; part = λ held tells. subst (told log) (sym (append-nil held)) tells }
-
-pub nothing_logged : {W : Type 0} (told : W → List ℕ → Type 0) (log : W) → Logs told log log []
-nothing_logged told log = record { lines = λ held tells. subst (told log) (sym (append-nil held)) tells; spelled = All-nil EventHasSpelling }
-
-pub handled_so : {W E : Type 0} (told : W → List ℕ → Type 0) (old new : LoggedMatch W) (played : MatchState) (event : AbstractEvent) (before after : List (List ℕ)) (result : Result (Unit {0}) E) → played ≡ old.played → ¬ IsOverAt old.until (moment_of event) → new.until ≡ old.until → Logs told old.log new.log (written old.played event) → OnOk result (Steps played event new.played before after) → OnOk result (LogSteps told old event new before after)
-handled_so told old new played event before after (Ok done) same timely until logs steps = record { timely = timely; same_until = until; logs = logs; steps = subst (λ (one : MatchState). Steps one event new.played before after) same steps }
-handled_so told old new played event before after (Err error) same timely until logs steps = tt
-
--- why a match is stopped stays as it was
-pub timed_before : {W : Type 0} (old new : LoggedMatch W) (event : AbstractEvent) → new.stopped ≡ old.stopped → IsTimed old new event
-timed_before old new event same = record { timed = λ stopped. inl (sym same ∙ stopped) }
-
-pub lacks_so : {W : Type 0} (told : W → List ℕ → Type 0) (old new : LoggedMatch W) (event : AbstractEvent) → LogsPart told old.log new.log (written old.played event) → new.until ≡ old.until → IsTimed old new event → LogLacks told old new
-lacks_so told old new event part until timed = record { event = event; part = part; same_until = until; timed = timed }
-
-pub unhandled_so : {W E : Type 0} (told : W → List ℕ → Type 0) (old new : LoggedMatch W) (event : AbstractEvent) (before after : List (List ℕ)) (result : Result (Unit {0}) E) → Logs told old.log new.log (written old.played event) → new.until ≡ old.until → new.stopped ≡ old.stopped → OnErr result (after ≡ before) → OnErr result ((after ≡ before) × LogLacks told old new)
-unhandled_so told old new event before after (Ok done) logs until stopped kept = tt
-unhandled_so told old new event before after (Err error) logs until stopped kept =
-    (kept, lacks_so told old new event (whole_part told old.log new.log (written old.played event) logs) until (timed_before old new event stopped))
 
 -- a match that opens, and whose log begins with its first line
 pub opened_so : {W : Type 0} (told : W → List ℕ → Type 0) (game : AbstractGame) (text : List ℕ) (config : Config) (now : ℕ) (state : MatchState) (outbox : List (List ℕ)) (old new : W) → Loads text game → now < 2 ^ 64 → Opens game text config now state outbox → Appends told old new (first_line config now) → told old [] → told new (first_line config now) × IsLog text (first_line config now) state outbox

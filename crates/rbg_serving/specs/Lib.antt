@@ -1,6 +1,7 @@
 pub mod Told
 pub mod Answers
 pub mod Heard
+pub mod Unhandled
 pub mod Passing
 pub mod Serving
 pub mod internal

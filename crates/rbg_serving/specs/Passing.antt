@@ -2,6 +2,7 @@
 use Rattle.std.specs.Prelude.{◌≡◌, ◌⊎◌, ◌+◌, ◌<◌, ◌≤◌, ℕ, List, [], ◌∷◌, ◌++◌, length, slice_index_or, true, false}
 use Rattle.rbg_serving.specs.Heard.{Heard, event_of, is_failed_put, is_polled, seat_of, IsLive}
 use Rattle.rbg_script.specs.Events.{AbstractEvent}
+use Rattle.rbg_serving.specs.declared.unhandled.HandleError.{HandleError}
 
 -- What a line has taken in a call: how many of the bytes that are queued for its seat, and how often it took none of the
 -- bytes that it was offered.
@@ -45,12 +46,12 @@ ExtendAll queued now = (index : ℕ) → index < length queued → Extends (queu
 
 -- What is served, as a call of `serve` knows it, where `S` has its states, as those of a match.
 --   steps: what an event changes in its state and in what is queued.
---   lacks: what it leaves of its state where it has no memory for an event.
+--   stops: why it doesn't handle an event, and what it leaves of its state then.
 --   listens: the states in which it still hears the line of a seat. Another line isn't polled.
 --   over: the states in which it is over.
 pub record Behaviour (S : Type 0) : Type 1 where
   pub steps : (old : S) → AbstractEvent → (new : S) → (before after : List (List ℕ)) → Type 0
-  pub lacks : (old new : S) → Type 0
+  pub stops : (old : S) → AbstractEvent → HandleError → (new : S) → Type 0
   pub listens : S → (seat : ℕ) → Type 0
   pub over : S → Type 0
 

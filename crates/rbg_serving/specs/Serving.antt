@@ -2,8 +2,10 @@
 use Rattle.std.specs.Prelude.{◌≡◌, ◌↔◌, ◌⊎◌, ◌<◌, ◌≤◌, ◌+◌, ℕ, List, [], ◌∷◌, ◌++◌, length, IsTrue, true, Result, Ok, Err, IsSome, Option, Some, None, MatchOption}
 use Rattle.rbg_serving.specs.declared.served.Served.{Served}
 use Rattle.rbg_serving.specs.declared.served.ServeError.{ServeError}
-use Rattle.rbg_serving.specs.declared.served.ServeError.TheVariants.{Rounds, Memory}
-use Rattle.rbg_serving.specs.Heard.{Heard, given_by, ends_of, failures_of, rounds_of, IsLive, IsTimed, IsOfLiveLines}
+use Rattle.rbg_serving.specs.declared.served.ServeError.TheVariants.{Rounds, Handle}
+use Rattle.rbg_serving.specs.declared.unhandled.HandleError.{HandleError}
+use Rattle.rbg_serving.specs.declared.unhandled.HandleError.TheVariants.{Memory}
+use Rattle.rbg_serving.specs.Heard.{Heard, event_of, given_by, ends_of, failures_of, rounds_of, IsLive, IsTimed, IsOfLiveLines}
 use Rattle.rbg_serving.specs.Passing.{Behaviour, Intake, intake_at, queued_at, MayComeNext, Handles, AllHandled}
 use Rattle.rbg_serving.specs.Told.{Told, told_at, TellEach}
 use Rattle.rbg_match.specs.Matches.{MatchState, Steps}
@@ -42,22 +44,23 @@ pub record IsOver {S : Type 0} (engine : Behaviour S) (heard : List Heard) (stat
       IsLive (index + 1) heard →
       TookAll (queued_at queued index) (told_at before index) (told_at after index)
 
--- All that was heard but the last was handled, and there was no memory for the last.
-pub record LacksMemory {S : Type 0} (engine : Behaviour S) (lines : ℕ) (heard : List Heard) (intakes : List Intake)
-    (old new : S) (queued_before queued : List (List ℕ)) : Type 0 where
+-- All that was heard but the last was handled. The last wasn't, for this reason.
+pub record LeavesLast {S : Type 0} (engine : Behaviour S) (lines : ℕ) (heard : List Heard) (intakes : List Intake)
+    (error : HandleError) (old new : S) (queued_before queued : List (List ℕ)) : Type 0 where
   pub handled : List Heard
-  pub refused : Heard
-  pub split : heard ≡ handled ++ refused ∷ []
+  pub left : Heard
+  pub split : heard ≡ handled ++ left ∷ []
   pub state : S
   pub since : List Intake
   pub handles : Handles engine lines old queued_before handled state queued since
-  pub next : MayComeNext engine lines handled state queued since intakes refused
-  pub lacks : engine.lacks state new
+  pub next : MayComeNext engine lines handled state queued since intakes left
+  pub stops : engine.stops state (event_of left) error new
 
 -- How a call ends that has heard this.
 --   Ok: it is handled, and what is served is over, after that many rounds.
 --   Rounds: it is handled, and what is served isn't over, after all rounds.
---   Memory: there was no memory for the last of it; or nothing was heard, and all is as it was.
+--   Handle: the last of it isn't handled, for this reason; or there was no memory to begin, nothing was heard, and all is
+--     as it was.
 abbrev pub EndsServing : {S : Type 0} → Behaviour S → (rounds : ℕ) → List Heard → List Intake → (before after : List Told) →
     (old new : S) → (queued_before queued : List (List ℕ)) → Result Served ServeError → Type 0
 EndsServing engine rounds heard intakes before after old new queued_before queued (Ok served) =
@@ -70,10 +73,16 @@ EndsServing engine rounds heard intakes before after old new queued_before queue
     AllHandled engine (length before) heard intakes old new queued_before queued
     × ¬ IsOver engine heard new queued before after
     × (rounds_of heard ≡ rounds)
-EndsServing engine rounds heard intakes before after old new queued_before queued (Err Memory) =
+EndsServing engine rounds heard intakes before after old new queued_before queued (Err (Handle error)) =
     (rounds_of heard ≤ rounds)
-    × (LacksMemory engine (length before) heard intakes old new queued_before queued
-    ⊎ (heard ≡ []) × (intakes ≡ []) × (new ≡ old) × (queued ≡ queued_before))
+    × (LeavesLast engine (length before) heard intakes error old new queued_before queued
+    ⊎ (error ≡ Memory) × (heard ≡ []) × (intakes ≡ []) × (new ≡ old) × (queued ≡ queued_before))
+
+-- What holds where a call with this result has handled all that it heard.
+abbrev pub OnHandled : Result Served ServeError → Type 0 → Type 0
+OnHandled (Ok served) P = P
+OnHandled (Err Rounds) P = P
+OnHandled (Err (Handle error)) P = Unit {0}
 
 -- A call with these answers: what the lines had told before and have told after it, seat 1 first, the moments that the
 -- clock told in it, and the state of what is served and the queued bytes before and after it.
@@ -113,12 +122,12 @@ ServesLines told failure_count clock_told engine old_lines lines old_clock clock
 abbrev pub IsDueIn : MatchState → Option ℕ → Type 0
 IsDueIn state due = MatchOption state.play.outcome (due ≡ Some (due_of state.config state.play)) (λ _. due ≡ None)
 
--- A match, as a call knows it. It is over once it has ended, and hears each line until then. It fails where it has no
--- memory for an event.
+-- A match, as a call knows it. It is over once it has ended, and hears each line until then. Only where there is no memory
+-- for an event it doesn't handle it, and fails.
 abbrev pub of_match : Behaviour MatchState
 of_match = record {
   steps = Steps;
-  lacks = λ old new. (new.failed ≡ true) × (new.game ≡ old.game);
+  stops = λ old event error new. (error ≡ Memory) × (new.failed ≡ true) × (new.game ≡ old.game);
   listens = λ state seat. ¬ IsSome state.play.outcome;
   over = λ state. IsSome state.play.outcome;
 }

@@ -2,3 +2,4 @@
 pub mod InCall
 pub mod Lines
 pub mod Polling
+pub mod Writing

@@ -1,5 +1,5 @@
 //! What is served.
-ghost use Rattle.std.specs.Prelude.{◌≡◌, ◌≤◌, ◌-◌, ◌↔◌, ℕ, List, [], Option, length, slice_index_or, IsTrue, OnOk, OnErr};
+ghost use Rattle.std.specs.Prelude.{◌≡◌, ◌≤◌, ◌-◌, ◌↔◌, ℕ, List, [], Option, length, slice_index_or, IfErr, IsTrue, OnOk, OnErr};
 ghost use Rattle.rbg_script.specs.Events.{event_of};
 ghost use Rattle.rbg_match.specs.Matches.{HasHistory};
 ghost use Rattle.rbg_match.specs.PlayingOn.{seats_of};
@@ -7,7 +7,7 @@ ghost use Rattle.rbg_rules.specs.Meaning.{AbstractGame};
 ghost use Rattle.rbg_serving.specs.Passing.{Behaviour, ExtendAll};
 ghost use Rattle.rbg_serving.specs.Serving.{IsDueIn, of_match};
 
-use rbg_base::Memory;
+use crate::HandleError;
 use rbg_match::{Match, Outbox};
 use rbg_script::Event;
 use std::alloc::Global;
@@ -33,19 +33,19 @@ pub trait Engine {
     /// For how many lines it queues bytes.
     ghost lines: { Fixed → ℕ };
 
-    /// What it keeps as long as there is memory.
+    /// What it keeps as long as it handles what comes.
     ghost valid: { Self → Type 0 };
 
     /// Whether this is the first moment at which some mover's time is over, if there is one.
     ghost first_due: { Self → Option ℕ → Type 0 };
 
     /// Handles an event.
-    fn handle(&mut self, event: Event<&[u8]>, outbox: &mut Self::Outbox) -> Result<(), Memory>
+    fn handle(&mut self, event: Event<&[u8]>, outbox: &mut Self::Outbox) -> Result<(), HandleError>
         requires { length (queued outbox.old) ≡ lines (fixed self.old) }
         ensures ok { OnOk result (behaviour.steps self.old (event_of event.entry) self.new
             (queued outbox.old) (queued outbox.new)) }
-        ensures err { OnErr result ((queued outbox.new ≡ queued outbox.old)
-            × behaviour.lacks self.old self.new) }
+        ensures kept { OnErr result (queued outbox.new ≡ queued outbox.old) }
+        ensures stops { IfErr result (λ error. behaviour.stops self.old (event_of event.entry) error self.new) }
         ensures extends { OnOk result (ExtendAll (queued outbox.old) (queued outbox.new)) }
         ensures valid { OnOk result (valid self.old → valid self.new) }
         ensures fixed { fixed self.new ≡ fixed self.old }
@@ -90,8 +90,9 @@ impl Engine for Match {
 
     ghost first_due = { IsDueIn };
 
-    fn handle(&mut self, event: Event<&[u8]>, outbox: &mut Outbox) -> Result<(), Memory> {
-        self.step(event, outbox)
+    fn handle(&mut self, event: Event<&[u8]>, outbox: &mut Outbox) -> Result<(), HandleError> {
+        self.step(event, outbox)?;
+        Ok(())
     }
 
     fn listens(&self, _seat: usize) -> bool {

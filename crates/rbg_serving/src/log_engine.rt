@@ -1,7 +1,6 @@
 //! A match with a log as something that can be served.
 use crate::engine::Engine;
-use crate::{Log, LoggedMatch};
-use rbg_base::Memory;
+use crate::{HandleError, Log, LoggedMatch};
 use rbg_match::Outbox;
 use rbg_script::Event;
 use std::alloc::Global;
@@ -29,9 +28,10 @@ impl<W: Log> Engine for LoggedMatch<W> {
 
     ghost first_due = { λ logged due. IsDueIn logged.played due };
 
-    fn handle(&mut self, event: Event<&[u8]>, outbox: &mut Outbox) -> Result<(), Memory> {
+    fn handle(&mut self, event: Event<&[u8]>, outbox: &mut Outbox) -> Result<(), HandleError> {
         self.write(event)?;
-        self.played.step(event, outbox)
+        self.played.step(event, outbox)?;
+        Ok(())
     }
 
     fn listens(&self, _seat: usize) -> bool {

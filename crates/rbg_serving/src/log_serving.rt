@@ -1,9 +1,9 @@
 //! The serving of a match with a log.
-ghost use Rattle.std.specs.Prelude.{◌≡◌, ℕ, List, length, IsErrOf};
+ghost use Rattle.std.specs.Prelude.{◌≡◌, ℕ, List, length};
 ghost use Rattle.rbg_match.specs.Matches.{HasHistory};
 ghost use Rattle.rbg_match.specs.PlayingOn.{seats_of};
 ghost use Rattle.rbg_serving.specs.Told.{Told, TellEach};
-ghost use Rattle.rbg_serving.specs.Serving.{ServesLines};
+ghost use Rattle.rbg_serving.specs.Serving.{OnHandled, ServesLines};
 ghost use Rattle.rbg_serving.specs.Logs.{IsLog};
 ghost use Rattle.rbg_serving.specs.LogServing.{LeavesLog, of_log};
 
@@ -16,8 +16,8 @@ use rbg_match::Outbox;
 
 impl<W: Log> LoggedMatch<W> {
     /// Serves the match over a line for each seat, as `crate::serving::serve` does, and writes each event that counts to the log
-    /// before the match handles it. So the log is a script of the match, in play too. Where the log fails, or the
-    /// time for the match is over, serving ends with `Memory`, and `stopped` tells why.
+    /// before the match handles it. So the log is a script of the match, in play too. Serving ends as well where the log fails,
+    /// and at the first event that comes when the time for the match is over.
     pub fn serve<L: Line, C: Clock>(
         &mut self,
         lines: &mut [L],
@@ -36,8 +36,7 @@ impl<W: Log> LoggedMatch<W> {
             W.told self.old.log held →
             IsLog text held self.old.played outbox.old →
             LeavesLog W.told text self.new outbox.new result }
-        ensures history { (¬ IsErrOf result ServeError.Memory) → HasHistory self.old.played
-            → HasHistory self.new.played }
+        ensures history { OnHandled result (HasHistory self.old.played → HasHistory self.new.played) }
         ensures game { self.new.played.game ≡ self.old.played.game }
         ensures seats { length outbox.new ≡ length outbox.old }
     {

@@ -1,21 +1,12 @@
 //! A match with a log.
-ghost use Rattle.std.specs.Prelude.{◌≡◌, ◌↔◌, Some, None, IsTrue};
+ghost use Rattle.std.specs.Prelude.{◌≡◌, ◌↔◌, false, Some, None, IsTrue};
 ghost use Rattle.rbg_serving.specs.LogServing.{IsOverAt};
 
 use crate::Log;
 use rbg_match::Match;
 
-/// Why no more events are handled.
-#[derive(Clone, Copy)]
-pub enum StopReason {
-    /// The log failed.
-    Log,
-    /// An event came when the time for the match was over.
-    Time,
-}
-
 /// A match with a log. Each event that counts is written before the match handles it: not a tick before the due moment, and
-/// nothing after the end.
+/// nothing after the end. Once the log has failed, no event is handled, since its last line may lack its end.
 #[derive(Drop)]
 pub struct LoggedMatch<W: Log> {
     pub(crate) played: Match,
@@ -24,7 +15,7 @@ pub struct LoggedMatch<W: Log> {
     pub(crate) line: Vec<u8>,
     /// The first moment at which events aren't handled any more, if there is one.
     pub(crate) until: Option<u64>,
-    pub(crate) stopped: Option<StopReason>,
+    pub(crate) log_failed: bool,
 }
 
 impl<W: Log> LoggedMatch<W> {
@@ -33,14 +24,14 @@ impl<W: Log> LoggedMatch<W> {
         ensures played { result.played ≡ played }
         ensures log { result.log ≡ log }
         ensures until { result.until ≡ None }
-        ensures stopped { result.stopped ≡ None }
+        ensures works { result.log_failed ≡ false }
     {
         LoggedMatch {
             played,
             log,
             line,
             until: None,
-            stopped: None,
+            log_failed: false,
         }
     }
 
@@ -65,19 +56,12 @@ impl<W: Log> LoggedMatch<W> {
         &self.log
     }
 
-    /// Why no more events are handled, if so.
-    pub fn stopped(&self) -> Option<StopReason>
-        ensures { result ≡ self.now.stopped }
-    {
-        self.stopped
-    }
-
     /// Handles no event at this moment or later.
     pub fn stop_at(&mut self, moment: u64)
         ensures until { self.new.until ≡ Some moment }
         ensures played { self.new.played ≡ self.old.played }
         ensures log { self.new.log ≡ self.old.log }
-        ensures stopped { self.new.stopped ≡ self.old.stopped }
+        ensures works { self.new.log_failed ≡ self.old.log_failed }
     {
         self.until = Some(moment);
     }

@@ -1,5 +1,5 @@
 //! A match begins, and its log with it.
-ghost use Rattle.std.specs.Prelude.{◌≡◌, [], length, IfOk, None, IsErrOf, OnErr, OnOk};
+ghost use Rattle.std.specs.Prelude.{◌≡◌, [], length, false, IfOk, None, IsErrOf, OnErr, OnOk};
 ghost use Rattle.rbg_game.specs.Loading.{Loads};
 ghost use Rattle.rbg_match.specs.Matches.{HasHistory};
 ghost use Rattle.rbg_match.specs.PlayingOn.{seats_of};
@@ -68,7 +68,7 @@ impl<W: Log> LoggedMatch<W> {
             × IsLog opening.entry.text.now (first_line opening.entry.config opening.entry.now) made.0.played made.1) }
         ensures game { IfOk result (λ made. made.0.played.game ≡ game) }
         ensures until { IfOk result (λ made. made.0.until ≡ None) }
-        ensures stopped { IfOk result (λ made. made.0.stopped ≡ None) }
+        ensures works { IfOk result (λ made. made.0.log_failed ≡ false) }
         ensures seats { IfOk result (λ made. length made.1 ≡ seats_of made.0.played.game) }
         ensures history { IfOk result (λ made. HasHistory made.0.played) }
     {

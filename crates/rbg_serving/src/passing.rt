@@ -3,13 +3,12 @@ ghost use Rattle.std.specs.Prelude.{◌≡◌, ◌≤◌, ◌<◌, ◌+◌, ◌+
 ghost use Rattle.rbg_serving.specs.Heard.{Heard, failed_to_take, IsLive};
 ghost use Rattle.rbg_serving.specs.Passing.{Intake};
 ghost use Rattle.rbg_serving.specs.Told.{Told, Tells};
-ghost use Rattle.rbg_serving.specs.internal.InCall.{Start, InCall, Passed, LacksMemoryInCall};
+ghost use Rattle.rbg_serving.specs.internal.InCall.{Start, InCall, Passed, LeavesLastInCall};
 ghost use Rattle.rbg_serving.specs.internal.Lines.{AreServed, AreServedFrom, ArePassed, has_taken, live_lines, passed_on};
 
 use crate::engine::Engine;
 use crate::line_state::LineState;
-use crate::{Line, Put};
-use rbg_base::Memory;
+use crate::{HandleError, Line, Put};
 use rbg_script::Event;
 
 /// Puts the rest of the bytes to a live line, until it has all of them, takes none, or fails.
@@ -80,7 +79,7 @@ pub(crate) fn pass<L: Line, E: Engine>(
     engine: &mut E,
     outbox: &mut E::Outbox,
     at: u64,
-) -> Result<(), Memory>
+) -> Result<(), HandleError>
     requires states { length states.old ≡ length lines.old }
     requires fits { length lines.old ≤ length (E.queued outbox.old) }
     requires queues { length (E.queued outbox.old) ≡ E.lines (E.fixed engine.old) }
@@ -90,7 +89,7 @@ pub(crate) fn pass<L: Line, E: Engine>(
         MatchResult result
         (λ _. Passed L.told L.failure_count E.behaviour start (earlier
         ++ at ∷ []) rounds lines.new states.new engine.new (E.queued outbox.new))
-        (λ _. LacksMemoryInCall L.told L.failure_count E.behaviour start (earlier
+        (LeavesLastInCall L.told L.failure_count E.behaviour start (earlier
         ++ at ∷ []) rounds lines.new states.new engine.new (E.queued outbox.new)) }
     ensures valid { OnOk result (E.valid engine.old → E.valid engine.new) }
     ensures fixed { E.fixed engine.new ≡ E.fixed engine.old }

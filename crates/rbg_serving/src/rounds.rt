@@ -5,7 +5,7 @@ ghost use Rattle.rbg_serving.specs.Answers.{FitsPoll};
 ghost use Rattle.rbg_serving.specs.Heard.{Heard, IsLive, event_of as heard_event};
 ghost use Rattle.rbg_serving.specs.Told.{Told};
 ghost use Rattle.rbg_serving.specs.Passing.{Intake};
-ghost use Rattle.rbg_serving.specs.internal.InCall.{Start, InCallOf, PassedOf, PassesOrLacks, Fits, Keeps, Stays};
+ghost use Rattle.rbg_serving.specs.internal.InCall.{Start, InCallOf, PassedOf, PassesOrLeaves, Fits, Keeps, Stays};
 ghost use Rattle.rbg_serving.specs.internal.Lines.{AreServed, absent};
 ghost use Rattle.rbg_serving.specs.internal.Polling.{heard_by_poll, is_last};
 
@@ -13,8 +13,7 @@ use crate::call::Call;
 use crate::engine::Engine;
 use crate::line_state::LineState;
 use crate::passing::pass;
-use crate::{Clock, Line, Pause, Polled};
-use rbg_base::Memory;
+use crate::{Clock, HandleError, Line, Pause, Polled};
 use rbg_script::Event;
 
 /// Whether a line that gives this answer has ended or failed.
@@ -75,14 +74,14 @@ fn event_of(polled: Polled, seat: u64, at: u64, buffer: &[u8]) -> Option<Event<&
 
 impl<'a, L: Line, E: Engine, C: Clock> Call<'a, L, E, C> {
     /// Polls a live line at the moment that the clock tells, and handles what is heard.
-    fn hear(&mut self, index: usize, buffer: &mut [u8]) -> Result<(), Memory>
+    fn hear(&mut self, index: usize, buffer: &mut [u8]) -> Result<(), HandleError>
         requires fits { Fits (λ engine. E.lines (E.fixed engine)) E.queued self.old }
         requires there { index < length self.old.lines.now }
         requires live { (slice_index_or self.old.states.now index absent).live ≡ true }
         requires listens { E.behaviour.listens self.old.engine.now (index + 1) }
         ensures goes_on { (start : Start E) (rounds : ℕ) →
             PassedOf L.told L.failure_count E.behaviour E.queued C.told start rounds self.old →
-            PassesOrLacks L.told L.failure_count E.behaviour E.queued C.told start rounds self.new result }
+            PassesOrLeaves L.told L.failure_count E.behaviour E.queued C.told start rounds self.new result }
         ensures kept { Keeps (λ engine. E.lines (E.fixed engine)) E.queued E.fixed E.valid self.old self.new result }
     {
         let at = self.clock.now();
@@ -104,12 +103,12 @@ impl<'a, L: Line, E: Engine, C: Clock> Call<'a, L, E, C> {
     }
 
     /// Polls a line if it is live and still heard.
-    fn visit(&mut self, index: usize, buffer: &mut [u8]) -> Result<(), Memory>
+    fn visit(&mut self, index: usize, buffer: &mut [u8]) -> Result<(), HandleError>
         requires fits { Fits (λ engine. E.lines (E.fixed engine)) E.queued self.old }
         requires there { index < length self.old.lines.now }
         ensures goes_on { (start : Start E) (rounds : ℕ) →
             PassedOf L.told L.failure_count E.behaviour E.queued C.told start rounds self.old →
-            PassesOrLacks L.told L.failure_count E.behaviour E.queued C.told start rounds self.new result }
+            PassesOrLeaves L.told L.failure_count E.behaviour E.queued C.told start rounds self.new result }
         ensures kept { Keeps (λ engine. E.lines (E.fixed engine)) E.queued E.fixed E.valid self.old self.new result }
     {
         if self.is_heard(index) {
@@ -119,11 +118,11 @@ impl<'a, L: Line, E: Engine, C: Clock> Call<'a, L, E, C> {
     }
 
     /// Closes a round at the moment that the clock tells.
-    fn tick(&mut self) -> Result<(), Memory>
+    fn tick(&mut self) -> Result<(), HandleError>
         requires fits { Fits (λ engine. E.lines (E.fixed engine)) E.queued self.old }
         ensures goes_on { (start : Start E) (rounds : ℕ) →
             PassedOf L.told L.failure_count E.behaviour E.queued C.told start rounds self.old →
-            PassesOrLacks L.told L.failure_count E.behaviour E.queued C.told start (rounds + 1) self.new result }
+            PassesOrLeaves L.told L.failure_count E.behaviour E.queued C.told start (rounds + 1) self.new result }
         ensures kept { Keeps (λ engine. E.lines (E.fixed engine)) E.queued E.fixed E.valid self.old self.new result }
     {
         let at = self.clock.now();
@@ -132,11 +131,11 @@ impl<'a, L: Line, E: Engine, C: Clock> Call<'a, L, E, C> {
     }
 
     /// Passes on what is queued, at the moment that the clock tells.
-    pub(crate) fn begin(&mut self) -> Result<(), Memory>
+    pub(crate) fn begin(&mut self) -> Result<(), HandleError>
         requires fits { Fits (λ engine. E.lines (E.fixed engine)) E.queued self.old }
         ensures goes_on { (start : Start E) (rounds : ℕ) →
             InCallOf L.told L.failure_count E.behaviour E.queued C.told start rounds self.old →
-            PassesOrLacks L.told L.failure_count E.behaviour E.queued C.told start rounds self.new result }
+            PassesOrLeaves L.told L.failure_count E.behaviour E.queued C.told start rounds self.new result }
         ensures kept { Keeps (λ engine. E.lines (E.fixed engine)) E.queued E.fixed E.valid self.old self.new result }
     {
         let at = self.clock.now();
@@ -167,11 +166,11 @@ impl<'a, L: Line, E: Engine, C: Clock> Call<'a, L, E, C> {
     }
 
     /// One round: a wait, a poll of each line and a tick. A line that isn't heard any more is not polled.
-    pub(crate) fn round(&mut self, buffer: &mut [u8]) -> Result<(), Memory>
+    pub(crate) fn round(&mut self, buffer: &mut [u8]) -> Result<(), HandleError>
         requires fits { Fits (λ engine. E.lines (E.fixed engine)) E.queued self.old }
         ensures goes_on { (start : Start E) (rounds : ℕ) →
             PassedOf L.told L.failure_count E.behaviour E.queued C.told start rounds self.old →
-            PassesOrLacks L.told L.failure_count E.behaviour E.queued C.told start (rounds + 1) self.new result }
+            PassesOrLeaves L.told L.failure_count E.behaviour E.queued C.told start (rounds + 1) self.new result }
         ensures kept { Keeps (λ engine. E.lines (E.fixed engine)) E.queued E.fixed E.valid self.old self.new result }
     {
         self.wait();

@@ -1,8 +1,8 @@
 //! What serving a match answers.
 ghost use Rattle.std.specs.Prelude.{◌≡◌};
 
+use crate::HandleError;
 use rbg_base::Memory as OutOfMemory;
-use std::alloc::AllocError;
 use thiserror::Error;
 
 /// The match has ended.
@@ -20,17 +20,28 @@ pub enum ServeError {
     /// After that many rounds the match had not ended, or a line that had neither ended nor failed had not taken all.
     #[error("out of rounds")]
     Rounds,
-    /// A request for memory failed.
-    #[error("out of memory")]
-    Memory,
+    /// The last that was heard wasn't handled, or there was no memory to begin.
+    #[error(transparent)]
+    Handle(HandleError),
+}
+
+impl From<HandleError> for ServeError {
+    ghost use Rattle.rbg_serving.specs.declared.served.ServeError.TheVariants.{Handle};
+
+    ghost from_gives = { λ reason error. error ≡ Handle reason };
+
+    fn from(error: HandleError) -> ServeError {
+        ServeError::Handle(error)
+    }
 }
 
 impl From<OutOfMemory> for ServeError {
-    ghost use Rattle.rbg_serving.specs.declared.served.ServeError.TheVariants.{Memory};
+    ghost use Rattle.rbg_serving.specs.declared.served.ServeError.TheVariants.{Handle};
+    ghost use Rattle.rbg_serving.specs.declared.unhandled.HandleError.TheVariants.{Memory};
 
-    ghost from_gives = { λ _ error. error ≡ Memory };
+    ghost from_gives = { λ _ error. error ≡ Handle Memory };
 
     fn from(_memory: OutOfMemory) -> ServeError {
-        ServeError::Memory
+        ServeError::Handle(HandleError::Memory)
     }
 }

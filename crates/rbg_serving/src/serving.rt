@@ -1,8 +1,8 @@
 //! The serving of a match over lines.
-ghost use Rattle.std.specs.Prelude.{◌≡◌, ◌<◌, ◌≤◌, ◌↔◌, ℕ, length, slice_index_or, IfOk, IsErrOf, IsTrue};
+ghost use Rattle.std.specs.Prelude.{◌≡◌, ◌<◌, ◌≤◌, ◌↔◌, ℕ, length, slice_index_or, IfOk, IsTrue};
 ghost use Rattle.rbg_match.specs.Matches.{HasHistory};
 ghost use Rattle.rbg_match.specs.PlayingOn.{seats_of};
-ghost use Rattle.rbg_serving.specs.Serving.{ServesLines, of_match};
+ghost use Rattle.rbg_serving.specs.Serving.{OnHandled, ServesLines, of_match};
 ghost use Rattle.rbg_serving.specs.internal.InCall.{Fits, IsSameCall};
 ghost use Rattle.rbg_serving.specs.internal.Lines.{absent, at_first, HasAll, LiveHaveAll};
 
@@ -32,8 +32,7 @@ pub fn serve<L: Line, C: Clock>(
     requires seats { length outbox.old ≡ seats_of refereed.old.game }
     ensures serves { ServesLines L.told L.failure_count C.told of_match lines.old lines.new clock.old clock.new
         rounds refereed.old refereed.new outbox.old outbox.new result }
-    ensures history { (¬ IsErrOf result ServeError.Memory) → HasHistory refereed.old
-        → HasHistory refereed.new }
+    ensures history { OnHandled result (HasHistory refereed.old → HasHistory refereed.new) }
     ensures game { refereed.new.game ≡ refereed.old.game }
     ensures seats { length outbox.new ≡ length outbox.old }
 {
@@ -57,7 +56,7 @@ pub fn serve_engine<L: Line, E: Engine, C: Clock>(
     requires queues { length (E.queued outbox.old) ≡ E.lines (E.fixed engine.old) }
     ensures serves { ServesLines L.told L.failure_count C.told E.behaviour lines.old lines.new clock.old clock.new
         rounds engine.old engine.new (E.queued outbox.old) (E.queued outbox.new) result }
-    ensures valid { (¬ IsErrOf result ServeError.Memory) → E.valid engine.old → E.valid engine.new }
+    ensures valid { OnHandled result (E.valid engine.old → E.valid engine.new) }
     ensures fixed { E.fixed engine.new ≡ E.fixed engine.old }
     ensures queues { length (E.queued outbox.new) ≡ length (E.queued outbox.old) }
 {
@@ -117,8 +116,7 @@ impl<'a, L: Line, E: Engine, C: Clock> Call<'a, L, E, C> {
         ensures fits { Fits (λ engine. E.lines (E.fixed engine)) E.queued self.new }
         ensures same { IsSameCall self.old self.new }
         ensures fixed { E.fixed self.new.engine.now ≡ E.fixed self.old.engine.now }
-        ensures valid { (¬ IsErrOf result ServeError.Memory)
-            → E.valid self.old.engine.now → E.valid self.new.engine.now }
+        ensures valid { OnHandled result (E.valid self.old.engine.now → E.valid self.new.engine.now) }
     {
         self.begin()?;
         let mut buffer = [0; PIECE];

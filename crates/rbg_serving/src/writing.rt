@@ -1,5 +1,5 @@
 //! Writing an event, at its counted moment, before it is handled.
-ghost use Rattle.std.specs.Prelude.{◌≡◌, ◌∷◌, [], ℕ, OnOk, OnErr, IsErrOf, map, option_to_list};
+ghost use Rattle.std.specs.Prelude.{◌≡◌, ◌∷◌, [], ℕ, IfErr, OnOk, OnErr, IsErrOf, map, option_to_list};
 ghost use Rattle.rbg_match.specs.Arrivals.{arrival_of};
 ghost use Rattle.rbg_match.specs.Inputs.{counted};
 ghost use Rattle.rbg_match.specs.Matches.{MatchState};
@@ -7,10 +7,11 @@ ghost use Rattle.rbg_match.specs.Play.{due_of};
 ghost use Rattle.rbg_script.specs.Events.{EventHasSpelling, event_of, moment_of};
 ghost use Rattle.rbg_wire.specs.Writing.{AppendsAll};
 ghost use Rattle.rbg_serving.specs.Logs.{Logs, LogsPart, event_line};
-ghost use Rattle.rbg_serving.specs.LogServing.{IsOverAt, IsTimed};
+ghost use Rattle.rbg_serving.specs.LogServing.{LogStops};
+ghost use Rattle.rbg_serving.specs.internal.Writing.{IsWrittenFirst};
 ghost use Rattle.rbg_serving.specs.Written.{at_moment, is_quiet, written};
 
-use crate::{Log, LoggedMatch, StopReason, WriteError};
+use crate::{HandleError, Log, LoggedMatch, WriteError};
 use rbg_base::Memory;
 use rbg_match::{Arrival, LATEST_MOMENT, MESSAGE_LIMIT, Match};
 use rbg_script::{Event, write_end, write_item, write_piece, write_tick};
@@ -143,31 +144,24 @@ fn write_at<W: Log>(
 }
 
 impl<W: Log> LoggedMatch<W> {
-    /// Writes what is written of an event, unless no more events are handled.
-    pub(crate) fn write(&mut self, event: Event<&[u8]>) -> Result<(), Memory>
+    /// Writes what is written of an event, if that comes in time and the log works.
+    pub(crate) fn write(&mut self, event: Event<&[u8]>) -> Result<(), HandleError>
         ensures played { self.new.played ≡ self.old.played }
-        ensures until { self.new.until ≡ self.old.until }
-        ensures going { OnOk result (self.new.stopped ≡ self.old.stopped) }
-        ensures timed { OnErr result (IsTimed self.old self.new (event_of event.entry)) }
-        ensures timely { OnOk result (¬ IsOverAt self.old.until (moment_of (event_of event.entry))) }
-        ensures ok { OnOk result (Logs W.told self.old.log self.new.log
-            (written self.old.played (event_of event.entry))) }
-        ensures err { OnErr result (LogsPart W.told self.old.log self.new.log
-            (written self.old.played (event_of event.entry))) }
+        ensures writes { OnOk result (IsWrittenFirst W.told self.old (event_of event.entry) self.new) }
+        ensures stops { IfErr result (λ error. LogStops W.told self.old (event_of event.entry) error self.new) }
     {
-        if self.stopped.is_some() {
-            return Err(Memory);
-        }
         if self.is_over_at(event.at()) {
-            self.stopped = Some(StopReason::Time);
-            return Err(Memory);
+            return Err(HandleError::Time);
+        }
+        if self.log_failed {
+            return Err(HandleError::Log);
         }
         match write_event(&self.played, event, &mut self.log, &mut self.line) {
             Ok(()) => Ok(()),
-            Err(WriteError::Memory) => Err(Memory),
+            Err(WriteError::Memory) => Err(HandleError::Memory),
             Err(WriteError::Log) => {
-                self.stopped = Some(StopReason::Log);
-                Err(Memory)
+                self.log_failed = true;
+                Err(HandleError::Log)
             }
         }
     }

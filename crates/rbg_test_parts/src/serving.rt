@@ -2,7 +2,9 @@
 //! turn.
 use rbg_game::load;
 use rbg_match::{Config, Match, Outbox};
-use rbg_serving::{Faulty, Give, Line, ListClock, MemoryLine, ServeError, Served, Take, serve};
+use rbg_serving::{
+    Faulty, Give, HandleError, Line, ListClock, MemoryLine, ServeError, Served, Take, serve,
+};
 use std::alloc::Global;
 use std::test::Fail;
 
@@ -77,7 +79,7 @@ fn serve_over<L: Line>(
     outbox: &mut Outbox,
 ) -> Result<Served, ServeError> {
     if opened.players() != lines.len() || outbox.seats() != lines.len() {
-        return Err(ServeError::Memory);
+        return Err(ServeError::Handle(HandleError::Memory));
     }
     let mut clock = ListClock::new(Vec::new(alloc));
     serve(lines, opened, outbox, &mut clock, 100)

@@ -1,13 +1,17 @@
 -- A hall whose records are handed to an archive, as a call that serves it knows it.
 use Rattle.std.specs.Prelude.{◌≡◌, ◌⊎◌, ◌-◌, ◌≤◌, ◌<◌, ◌||◌, ℕ, suc, Bool, true, false, List, [], ◌∷◌, ◌++◌, Option, Some, Result, Ok, Err, is_some, length, replicate, slice_index_or, MatchResult}
-use Rattle.rbg_script.specs.Events.{AbstractEvent}
+use Rattle.rbg_script.specs.Events.{AbstractEvent, moment_of}
 use Rattle.rbg_hall.specs.Halls.{AbstractTable, HallState, begun_at}
 use Rattle.rbg_hall.specs.Hearing.{HallHears}
+use Rattle.rbg_hall.specs.Ledgers.{HasLogFailed}
 use Rattle.rbg_hall.specs.Serving.{HaveAllEnded, MaySpeak, hall_event, has_ended}
 use Rattle.rbg_hall.specs.Tables.{TableState}
 use Rattle.rbg_match.specs.Matches.{MatchState}
 use Rattle.rbg_network.specs.Archives.{Handed, is_any_lost}
+use Rattle.rbg_serving.specs.LogServing.{IsOverAt}
 use Rattle.rbg_serving.specs.Passing.{Behaviour}
+use Rattle.rbg_serving.specs.declared.unhandled.HandleError.{HandleError}
+use Rattle.rbg_serving.specs.declared.unhandled.HandleError.TheVariants.{Memory, Log, Time}
 use Rattle.rbg_referee.specs.declared.answer.Answer.{Answer}
 use Rattle.rbg_hosting.specs.Archives.{AreHandedOver, IsArchivedRun, IsHandedFor, IsHandedOver, wanted_of}
 use Rattle.rbg_hosting.specs.Moments.{GoesOnAfter, HearsPast, IsSince, later_event}
@@ -94,16 +98,39 @@ pub record HandsAt {A : Type 0} (told : A → List Handed → Type 0) (before af
   pub hands : WorksUnless (noted_at before index) begun → (handed : List Handed) → HasHanded told before handed →
       HandsOne told after (suc index) (noted_at before index) begun handed
 
--- Like a hall, it is over once every match has ended, and hears each line that may speak until then. Each event is heard
--- later by the moment from which the matches go on. After it is handed over what is to be handed over. Where an event isn't
--- handled, nothing is.
+-- An event comes while there is time. The hall hears it, later by the moment from which its matches go on, and then is
+-- handed over what is to be handed over.
+pub record RecordedSteps {W A : Type 0} (told : A → List Handed → Type 0) (old : RecordedHall W A) (event : AbstractEvent)
+    (new : RecordedHall W A) (before after : List (List ℕ)) : Type 0 where
+  pub timely : ¬ IsOverAt old.until (moment_of event)
+  pub hears : HallHears old.hall.state (hall_event (later_event old.since event)) new.hall.state before after
+  pub hands : HandsOver told old.recorder new.recorder old.hall.state.tables new.hall.state.tables
+  pub same_since : new.since ≡ old.since
+  pub same_until : new.until ≡ old.until
+
+-- An event comes when the time is over: all stays as it was.
+pub record RecordedLate {W A : Type 0} (old : RecordedHall W A) (event : AbstractEvent) (new : RecordedHall W A) : Type 0 where
+  pub over : IsOverAt old.until (moment_of event)
+  pub same : new ≡ old
+
+-- An event comes in time, and the hall doesn't hear it: nothing is handed over.
+pub record RecordedFails {W A : Type 0} (old : RecordedHall W A) (event : AbstractEvent) (new : RecordedHall W A) : Type 0 where
+  pub timely : ¬ IsOverAt old.until (moment_of event)
+  pub same_recorder : new.recorder ≡ old.recorder
+  pub same_since : new.since ≡ old.since
+  pub same_until : new.until ≡ old.until
+
+-- Why an event isn't handled: the time is over; or in time a log has failed, or none has, and there was no memory.
+abbrev pub RecordedStops : {W A : Type 0} → (old : RecordedHall W A) → AbstractEvent → HandleError → (new : RecordedHall W A) → Type 0
+RecordedStops old event Time new = RecordedLate old event new
+RecordedStops old event Log new = RecordedFails old event new × HasLogFailed new.hall.ledgers
+RecordedStops old event Memory new = RecordedFails old event new × ¬ HasLogFailed new.hall.ledgers
+
+-- Like a hall, it is over once every match has ended, and hears each line that may speak until then.
 abbrev pub of_recorded : {W A : Type 0} → (told : A → List Handed → Type 0) → Behaviour (RecordedHall W A)
 of_recorded told = record {
-  steps = λ old event new before after.
-      HallHears old.hall.state (hall_event (later_event old.since event)) new.hall.state before after
-      × HandsOver told old.recorder new.recorder old.hall.state.tables new.hall.state.tables
-      × (new.since ≡ old.since);
-  lacks = λ old new. new.recorder ≡ old.recorder;
+  steps = RecordedSteps told;
+  stops = RecordedStops;
   listens = λ recorded seat. (¬ HaveAllEnded recorded.hall.state.tables) × MaySpeak recorded.hall.state (seat - 1);
   over = λ recorded. HaveAllEnded recorded.hall.state.tables;
 }

@@ -3,9 +3,10 @@ use Rattle.std.specs.Prelude.{◌≡◌, ◌≤◌, ℕ, List, [], ◌∷◌, �
 use Rattle.rbg_script.specs.Events.{AbstractEvent}
 use Rattle.rbg_serving.specs.declared.line_state.LineState.{LineState}
 use Rattle.rbg_serving.specs.declared.call.Call.{Call}
+use Rattle.rbg_serving.specs.declared.unhandled.HandleError.{HandleError}
 use Rattle.rbg_serving.specs.Heard.{Heard, event_of, rounds_of, IsTimed, IsOfLiveLines}
 use Rattle.rbg_serving.specs.Passing.{Behaviour, Intake, ComeBefore, AllOffered, MayComeNext, Handles}
-use Rattle.rbg_serving.specs.Serving.{LacksMemory}
+use Rattle.rbg_serving.specs.Serving.{LeavesLast}
 use Rattle.rbg_serving.specs.Told.{Told}
 use Rattle.rbg_serving.specs.internal.Lines.{AreServed}
 
@@ -60,16 +61,16 @@ pub record HeardLast {L S : Type 0} (told : L → Told → Type 0) (failure_coun
   pub served : AreServed told failure_count start.told (before ++ one ∷ []) queued lines states intakes
   pub fits : length lines ≤ length queued
 
--- The call has come so far, in so many rounds at most. There was no memory for the last that was heard.
-pub record LacksMemoryInCall {L S : Type 0} (told : L → Told → Type 0) (failure_count : L → ℕ) (engine : Behaviour S)
+-- The call has come so far, in so many rounds at most. The last that was heard isn't handled, for this reason.
+pub record LeavesLastInCall {L S : Type 0} (told : L → Told → Type 0) (failure_count : L → ℕ) (engine : Behaviour S)
     (start : Start S) (moments : List ℕ) (rounds : ℕ) (lines : List L) (states : List LineState) (state : S)
-    (queued : List (List ℕ)) : Type 0 where
+    (queued : List (List ℕ)) (error : HandleError) : Type 0 where
   pub course : Course start moments
   pub open course use *
   pub count : rounds_of heard ≤ rounds
   pub intakes : List Intake
   pub served : AreServed told failure_count start.told heard queued lines states intakes
-  pub lacks : LacksMemory engine (length start.told) heard intakes start.state state start.queued queued
+  pub leaves : LeavesLast engine (length start.told) heard intakes error start.state state start.queued queued
 
 -- So much holds with some moments, and these are all that the clock has told.
 pub record WithMoments {C : Type 0} (clock_told : C → List ℕ → Type 0) (asked : List ℕ) (clock : C)
@@ -92,13 +93,13 @@ PassedOf told failure_count engine queued clock_told start rounds call =
     WithMoments clock_told start.asked call.clock.now (λ moments.
     Passed told failure_count engine start moments rounds call.lines.now call.states.now call.engine.now (queued call.outbox.now))
 
--- there was no memory for the last that was heard
-abbrev pub LacksMemoryOf : {L S Q C : Type 0} → (L → Told → Type 0) → (L → ℕ) → Behaviour S → (Q → List (List ℕ)) →
-    (C → List ℕ → Type 0) → (start : Start S) → (rounds : ℕ) → Call L S C Q → Type 0
-LacksMemoryOf told failure_count engine queued clock_told start rounds call =
+-- the last that was heard isn't handled, for this reason
+abbrev pub LeavesLastOf : {L S Q C : Type 0} → (L → Told → Type 0) → (L → ℕ) → Behaviour S → (Q → List (List ℕ)) →
+    (C → List ℕ → Type 0) → (start : Start S) → (rounds : ℕ) → Call L S C Q → HandleError → Type 0
+LeavesLastOf told failure_count engine queued clock_told start rounds call error =
     WithMoments clock_told start.asked call.clock.now (λ moments.
-    LacksMemoryInCall told failure_count engine start moments rounds call.lines.now call.states.now call.engine.now
-    (queued call.outbox.now))
+    LeavesLastInCall told failure_count engine start moments rounds call.lines.now call.states.now call.engine.now
+    (queued call.outbox.now) error)
 
 -- There is a state for each line, there aren't more lines than can be served, and bytes are queued for as many.
 abbrev pub Fits : {L S Q C : Type 0} → (served : S → ℕ) → (Q → List (List ℕ)) → Call L S C Q → Type 0
@@ -123,16 +124,16 @@ abbrev pub Stays : {L S Q C Fixed : Type 0} → (served : S → ℕ) → (Q → 
 Stays served queued fixed old new =
     Fits served queued new × IsSameCall old new × (fixed new.engine.now ≡ fixed old.engine.now)
 
--- the same, and what holds is kept as long as there is memory
+-- the same, and what holds is kept as long as all is handled
 abbrev pub Keeps : {L S Q C Fixed E : Type 0} → (served : S → ℕ) → (Q → List (List ℕ)) → (fixed : S → Fixed) → (valid : S → Type 0) →
     (old new : Call L S C Q) → Result (Unit {0}) E → Type 0
 Keeps served queued fixed valid old new result =
     Stays served queued fixed old new × OnOk result (valid old.engine.now → valid new.engine.now)
 
--- All that is queued was offered, or there was no memory for the last that was heard, after so many rounds.
-abbrev pub PassesOrLacks : {L S Q C E : Type 0} → (L → Told → Type 0) → (L → ℕ) → Behaviour S → (Q → List (List ℕ)) →
-    (C → List ℕ → Type 0) → (start : Start S) → (rounds : ℕ) → Call L S C Q → Result (Unit {0}) E → Type 0
-PassesOrLacks told failure_count engine queued clock_told start rounds call result =
+-- All that is queued was offered, or the last that was heard isn't handled, after so many rounds.
+abbrev pub PassesOrLeaves : {L S Q C : Type 0} → (L → Told → Type 0) → (L → ℕ) → Behaviour S → (Q → List (List ℕ)) →
+    (C → List ℕ → Type 0) → (start : Start S) → (rounds : ℕ) → Call L S C Q → Result (Unit {0}) HandleError → Type 0
+PassesOrLeaves told failure_count engine queued clock_told start rounds call result =
     MatchResult result
     (λ _. PassedOf told failure_count engine queued clock_told start rounds call)
-    (λ _. LacksMemoryOf told failure_count engine queued clock_told start rounds call)
+    (LeavesLastOf told failure_count engine queued clock_told start rounds call)

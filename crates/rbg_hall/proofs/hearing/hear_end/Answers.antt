@@ -1,7 +1,7 @@
-use Rattle.rbg_base.proofs.Common.{length, set, get_or, ap, sym, subst, OnOk, on_err_weaker, on_ok_weaker}
+use Rattle.rbg_base.proofs.Common.{length, set, get_or, ap, sym, subst, OnOk, on_ok_weaker}
 use Rattle.rbg_hall.proofs.Common.{heard_of_end, TablesHear, IsReady, line_of}
 use Rattle.rbg_hall.proofs.Pieces.{end_of_silent, end_of_over, end_of_asking}
-use Rattle.rbg_hall.proofs.Taking.{stops_at}
+use Rattle.rbg_hall.proofs.Taking.{on_any_error, stops_at}
 use Rattle.rbg_hall.proofs.Ticking.{one_stops}
 use Rattle.rbg_hall.proofs.hearing.hear_end.Goals as goal
 
@@ -24,4 +24,4 @@ returns-clause-hears g c =
 pub returns-in-Asks-clause-stops : goal.returns-in-Asks-clause-stops
 returns-in-Asks-clause-stops g c =
     let tables = c.args.tables.now in
-    on_err_weaker c.hear.result (λ fails. one_stops tables c.in-Asks.index (get_or tables c.in-Asks.index c.index-tables-index.result) c.hear.new.self (ap (get_or tables c.in-Asks.index) c.index-tables-index.is) (stops_at fails)) c.hear.ensures.fails
+    on_any_error c.hear.result (λ reason fails. one_stops tables c.in-Asks.index (get_or tables c.in-Asks.index c.index-tables-index.result) c.hear.new.self (ap (get_or tables c.in-Asks.index) c.index-tables-index.is) (stops_at fails)) c.hear.ensures.fails

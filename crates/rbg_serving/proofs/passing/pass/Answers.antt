@@ -1,5 +1,5 @@
 use Rattle.std.proofs.Common.{ap, arith, ◌∙◌}
-use Rattle.rbg_serving.proofs.InCallLemmas.{put_failed, handled, refused, on_error, all_passed}
+use Rattle.rbg_serving.proofs.InCallLemmas.{put_failed, handled, unhandled, on_error, all_passed}
 use Rattle.rbg_serving.proofs.passing.pass.Goals as goal
 
 pub loop-index-preserved : goal.loop-index-preserved
@@ -21,15 +21,15 @@ loop-index-preserved g c =
 
 pub returns-in_err-handle-clause-goes_on : goal.returns-in_err-handle-clause-goes_on
 returns-in_err-handle-clause-goes_on g c = λ start earlier rounds call.
-    on_error _ _ c.from_residual.result c.from_residual.ensures.1
-    (refused
+    on_error _ _ c.from_residual.result c.in_err-handle.field-0.0 c.from_residual.ensures.1
+    (unhandled
     (put_failed earlier c.args.at c.in-Some.index (c.loop-index.invariant.3 start earlier rounds call)
     (omega (arith, c.in-Some.ensures.there, c.pass_to_each.auto.lines))
     (omega (arith, c.pass_to_each.auto.lines))
     (omega (arith, c.loop-index.invariant.1, c.requires.fits, c.loop-index.auto.lines))
     c.in-Some.ensures.served)
-    c.in_err-handle.ensures.err.0
-    c.in_err-handle.ensures.err.1)
+    c.in_err-handle.ensures.kept
+    c.in_err-handle.ensures.stops)
 
 pub returns-clause-goes_on : goal.returns-clause-goes_on
 returns-clause-goes_on g c = λ start earlier rounds call.
