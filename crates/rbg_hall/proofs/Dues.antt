@@ -1,5 +1,5 @@
 -- The first due moment of the tables of a hall.
-use Rattle.rbg_base.proofs.Common.{◌≡◌, ◌⊎◌, ℕ, ◌+◌, ◌<◌, ◌≤◌, List, length, map, get_or, sym, ap, ◌∙◌, subst, arith, Option, Some, None, inl, inr, get_or-map, length-map}
+use Rattle.rbg_base.proofs.Common.{◌≡◌, ℕ, ◌+◌, ◌<◌, ◌≤◌, List, length, get_or, sym, ap, ◌∙◌, subst, arith, Option, Some, None, inl, inr, get_or-map, length-map}
 use Rattle.rbg_match.specs.Matches.{MatchState}
 use Rattle.rbg_match.specs.Play.{due_of}
 use Rattle.rbg_hall.specs.Tables.{TableState}

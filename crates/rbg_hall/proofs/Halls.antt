@@ -1,10 +1,11 @@
 -- What an event leads to in a hall.
-use Rattle.rbg_base.proofs.Common.{◌≡◌, ℕ, zero, suc, ◌+◌, ◌<◌, ◌≤◌, List, [], ◌∷◌, ◌++◌, length, set, get_or, refl, sym, ap, ◌∙◌, subst, Option, Some, None, get_or_past, set_past, length-map, map-set, get_or-map, flat_map}
+use Rattle.rbg_base.proofs.Common.{◌≡◌, ℕ, zero, suc, ◌+◌, ◌<◌, ◌≤◌, Bool, List, [], ◌∷◌, ◌++◌, length, set, take, drop, take-append_seam, get_or, refl, sym, ap, ◌∙◌, subst, Option, Some, None, get_or_past, set_past, length-map, map-set, get_or-map, flat_map}
 use Rattle.rbg_hall.proofs.TableCommon.{OwnEvent, clock, Telling, told_to}
 use Rattle.rbg_hall.proofs.Telling.{told_to-none}
 use Rattle.rbg_hall.specs.Kept.{KeptState}
-use Rattle.rbg_hall.proofs.Common.{LinePhase, Over, EachHears, HearsEach, line_at, line_beyond, refused_in, HallLine, over, heard_of_piece, heard_of_end, EachBecomes, EachWrites, HallStops, HallWrites, KeptHearsEach, EachKeptHears, PieceHeard, TablesHear, TablesStop, said_by, hall_of, ledgers_of, line_of, lines_of, states_of}
-use Rattle.rbg_script.specs.Events.{piece, end_of_stream, moment_alone}
+use Rattle.rbg_hall.specs.internal.Hearing.{KeptWrites}
+use Rattle.rbg_hall.proofs.Common.{HeldHall, LinePhase, Over, EachHears, HearsEach, line_at, line_beyond, refused_in, HallLine, over, heard_of_piece, heard_of_end, EachBecomes, EachWrites, HallStops, HallWrites, KeptHearsEach, EachKeptHears, PieceHeard, TablesHear, TablesStop, said_by, hall_of, ledgers_of, line_of, lines_of, states_of}
+use Rattle.rbg_script.specs.Events.{AbstractEvent, piece, end_of_stream, moment_alone}
 use Rattle.rbg_hall.specs.Halls as halls
 use Rattle.rbg_hall.specs.Ledgers as ledgers
 use Rattle.rbg_hall.specs.internal.Hearing as hearing
@@ -147,3 +148,26 @@ clock_ticks tells tables news lines at before after hears = record {
 -- a line that was taken out of the list stood there
 pub found_by : (lines : List LinePhase) (line : ℕ) (read one : LinePhase) → read ≡ get_or lines line read → one ≡ get_or lines line read → one ≡ get_or lines line one
 found_by lines line read one found is = is ∙ ap (get_or lines line) (found ∙ sym is)
+
+-- the items of a vector all of which were lent
+whole_again : {X : Type 0} (count : ℕ) (olds news : List X) → length news ≡ count → take count (news ++ drop (length news) olds) ≡ news
+whole_again count olds news is = subst (λ (n : ℕ). take n (news ++ drop (length news) olds) ≡ news) is (take-append_seam news (drop (length news) olds))
+
+-- a hall whose tables and lines, all of them lent, hear an event
+pub hall_writes : {W : Type 0} (told : W → List ℕ → Type 0) (event : AbstractEvent) (tables were news : List (KeptState W)) (lines stood next : List LinePhase) (count many : ℕ) (old : HeldHall W) (failed : Bool) (before queued after : List (List ℕ)) →
+    ◌≡◌ {A = HeldHall W} (record { state = hall_of tables lines; ledgers = ledgers_of tables; failed = failed }) old →
+    were ≡ tables → stood ≡ lines → queued ≡ before →
+    length news ≡ count → length next ≡ many →
+    KeptWrites told were stood event news next queued after →
+    HallWrites told old.state old.ledgers event
+    (hall_of (take count (news ++ drop (length news) tables)) (take many (next ++ drop (length next) lines)))
+    (ledgers_of (take count (news ++ drop (length news) tables))) before after
+hall_writes told event tables were news lines stood next count many old failed before queued after view tables_are lines_are queued_is as_many_tables as_many_lines writes =
+    let whole = take count (news ++ drop (length news) tables) in
+    let lines_whole = take many (next ++ drop (length next) lines) in
+    subst (λ (hall : HeldHall _). HallWrites told hall.state hall.ledgers event (hall_of whole lines_whole) (ledgers_of whole) before after) view
+    (subst (λ (ones : List (KeptState _)). KeptWrites told ones lines event whole lines_whole before after) tables_are
+    (subst (λ (ones : List LinePhase). KeptWrites told were ones event whole lines_whole before after) lines_are
+    (subst (λ (ones : List (KeptState _)). KeptWrites told were stood event ones lines_whole before after) (sym (whole_again count tables news as_many_tables))
+    (subst (λ (ones : List LinePhase). KeptWrites told were stood event news ones before after) (sym (whole_again many lines next as_many_lines))
+    (subst (λ (queues : List (List ℕ)). KeptWrites told were stood event news next queues after) queued_is writes)))))

@@ -1,5 +1,5 @@
 -- A table keeps the log of its match.
-use Rattle.rbg_base.proofs.Common.{◌≡◌, ℕ, Bor, ◌+◌, ◌<◌, ◌^◌, Bool, true, false, List, [], ◌∷◌, ◌++◌, All, Option, Some, None, is_none, refl, sym, ap, subst, append-nil, slice_set, option_copied, IfSome, OnErr, OnOk, Result, Ok, Err, All-nil, none-some}
+use Rattle.rbg_base.proofs.Common.{◌≡◌, ℕ, Bor, ◌+◌, ◌<◌, ◌^◌, Bool, true, List, [], ◌∷◌, ◌++◌, All, Option, Some, None, is_none, refl, sym, ap, subst, append-nil, slice_set, option_copied, IfSome, OnErr, OnOk, Result, Ok, Err, All-nil, none-some}
 use Rattle.std.proofs.lemmas.Bool.{true≢false}
 use Rattle.rbg_rules.specs.Meaning.{AbstractGame}
 use Rattle.rbg_match.specs.declared.config.Config.{Config}
@@ -164,11 +164,6 @@ pub works_so : (standing : Standing) → works standing ≡ true → standing �
 works_so Works so = refl
 works_so LogFailed so = absurd (true≢false (sym so))
 works_so OutOfMemory so = absurd (true≢false (sym so))
-
-pub fails_so : (standing : Standing) → works standing ≡ false → ¬ (standing ≡ Works)
-fails_so Works so = λ _. true≢false so
-fails_so LogFailed so = λ is. cc
-fails_so OutOfMemory so = λ is. cc
 
 -- a log that is lent
 pub lent_log : {W : Type 0} (told : W → List ℕ → Type 0) (table : TableState) (log : Option W) (found : Option (Bor W)) → option_copied found ≡ log → IsKept told table log → IfSome found (λ one. HasLog told table one.now)

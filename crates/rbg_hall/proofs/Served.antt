@@ -1,13 +1,12 @@
 -- A hall that is served.
-use Rattle.rbg_base.proofs.Common.{◌≡◌, ℕ, zero, suc, ◌<◌, Bool, List, [], ◌∷◌, length, true, false, refl, sym, ap, ◌∙◌, subst, arith, append-nil, Result, Ok, Err, inl, inr, map-append, ◌↔◌}
+use Rattle.rbg_base.proofs.Common.{◌≡◌, ℕ, zero, suc, ◌<◌, List, [], ◌∷◌, length, refl, sym, subst, arith, append-nil, Result, Ok, Err, inl, inr, map-append, ◌↔◌}
 use Rattle.rbg_hall.specs.Tellings.{Telling, bytes_to, told_from}
-use Rattle.rbg_hall.proofs.Telling.{length-told_to}
 use Rattle.rbg_serving.specs.declared.served.Served.{Served}
 use Rattle.rbg_serving.specs.declared.served.ServeError.{ServeError}
 use Rattle.rbg_serving.specs.declared.served.ServeError.TheVariants.{Rounds, Handle}
 use Rattle.rbg_serving.specs.declared.keeping.WriteError.{WriteError}
 use Rattle.rbg_serving.specs.Unhandled.{unwritten}
-use Rattle.rbg_serving.proofs.Logging.{on_handled}
+use Rattle.rbg_serving.specs.Serving.{OnHandled}
 use Rattle.rbg_hall.specs.Serving.{FailsHall, StopsHall}
 use Rattle.rbg_serving.proofs.Common.{Heard, event_of, Intake, Handles, Extends, ExtendAll, queued_at}
 use Rattle.rbg_serving.specs.Passing as passing
@@ -25,6 +24,12 @@ pub hearing_extends : {old new : HallState} {event : AbstractEvent} {before afte
 hearing_extends {before = before} hears = λ index within.
     subst (λ queues. Extends (queued_at before index) (queued_at queues index)) (sym hears.queued)
     (told_extends 0 before hears.told index within)
+
+-- what holds anyway
+on_handled : {P : Type 0} (result : Result Served ServeError) → P → OnHandled result P
+on_handled (Ok served) holds = holds
+on_handled (Err Rounds) holds = holds
+on_handled (Err (Handle error)) holds = tt
 
 -- what fails in a hall, as a call hears it
 pub stops_so : {W : Type 0} (told : W → List ℕ → Type 0) (old new : HeldHall W) (error : WriteError) → FailsHall told old new → (error ≡ WriteError.Log) ↔ HasLogFailed new.ledgers → StopsHall told old (unwritten error) new

@@ -1,7 +1,7 @@
 -- The due moment of one table, and the earlier one of two.
 use Rattle.std.specs.Prelude.{◌≡◌, ◌≤◌, ◌⊎◌, ℕ, Option, Some, None}
 use Rattle.rbg_hall.specs.Tables.{TableState}
-use Rattle.rbg_hall.specs.Due.{IsDueOf, IsNotBefore}
+use Rattle.rbg_hall.specs.Due.{IsDueOf}
 
 -- This is the due moment of a table's match, if that goes on.
 abbrev pub IsDueOrNone : TableState → Option ℕ → Type 0

@@ -1,5 +1,5 @@
 -- None yet, one table more, and all.
-use Rattle.rbg_hall.proofs.Dues.{all_first, none_yet, one_more}
+use Rattle.rbg_hall.proofs.Dues.{all_first, one_more}
 use Rattle.rbg_hall.proofs.due.first_due.Goals as goal
 
 pub loop-table-preserved : goal.loop-table-preserved

@@ -1,6 +1,5 @@
 use Rattle.rbg_base.proofs.Common.{ap, length, subst, ◌∙◌}
 use Rattle.rbg_base.proofs.Errors.{passed_on}
-use Rattle.rbg_script.specs.Events.{event_of}
 use Rattle.rbg_serving.specs.Unhandled.{unwritten}
 use Rattle.rbg_hall.specs.Ledgers.{HallWrites}
 use Rattle.rbg_hall.specs.Serving.{StopsHall}
