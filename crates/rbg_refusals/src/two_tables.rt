@@ -6,10 +6,9 @@ use crate::halls::table;
 use crate::printing::Facts;
 use crate::records;
 use crate::stop::Stop;
-use rbg_base::Memory;
 use rbg_hall::{Hall, HallOut, Table};
 use rbg_script::Event;
-use rbg_serving::BoundedLog;
+use rbg_serving::{BoundedLog, WriteError};
 use std::alloc::Global;
 use std::io::Write;
 
@@ -104,7 +103,7 @@ fn step_each(
     hall: &mut Hall<BoundedLog>,
     out: &mut HallOut,
     sizes: &mut [Sizes; EVENTS],
-) -> Result<(), Memory> {
+) -> Result<(), WriteError> {
     for index in 0..EVENTS {
         hall.step(HEARD[index], out)?;
         sizes[index] = sizes_of(out);
