@@ -1,13 +1,11 @@
 //! What `moves` prints of a game, or of a game and a record: the legal moves, as people read them.
-ghost use Rattle.rbg_rules.specs.Meaning.{IsPlaceOf};
-
 use crate::game_files::{Read, load_text, read_moves, read_text, source_name, unreadable};
 use crate::page::{TOO_LONG, refused};
 use crate::report::Report;
 use rbg_base::{Move, Pair, Piece};
 use rbg_console::{Files, Input, Status};
 use rbg_game::{Layout, LoadedGame};
-use rbg_moves::{Over, Place, PlayedGame, Unsettled};
+use rbg_moves::{GamePlace, Over, PlayedGame, Playthrough, Unsettled};
 use rbg_record::place_after;
 use rbg_view::MoveSpeller;
 use rbg_wire::{after_text, cut_number, read_pairs, write_number, write_pairs};
@@ -78,16 +76,15 @@ fn moves_after(
     bytes: &[u8],
 ) -> Result<Report, AllocError> {
     match place_after(game, bytes) {
-        Ok(place) => moves_at(alloc, game, layout, &place),
+        Ok(place) => moves_at(alloc, layout, &GamePlace::new(game, &place)),
         Err(misfit) => refused(alloc, misfit),
     }
 }
 
 fn moves_first(alloc: Global, game: &PlayedGame, layout: &Layout) -> Result<Report, AllocError> {
-    let mut place = game.start()?;
-    let mut workspace = game.workspace();
-    match game.settle(&mut place, &mut workspace) {
-        Ok(()) => moves_at(alloc, game, layout, &place),
+    let mut play = Playthrough::start(game)?;
+    match play.settle() {
+        Ok(()) => moves_at(alloc, layout, &play.here()),
         Err(Unsettled::Memory) => Err(AllocError),
         Err(_) => over(alloc),
     }
@@ -107,10 +104,9 @@ pub(crate) fn readable_listing(
 ) -> Result<Report, AllocError> {
     let LoadedGame { game, layout } = loaded;
     let game = PlayedGame::new(alloc, game)?;
-    let mut place = game.start()?;
-    let mut workspace = game.workspace();
-    match game.settle(&mut place, &mut workspace) {
-        Ok(()) => readable_lines(alloc, &game, &layout, &place, listing),
+    let mut play = Playthrough::start(&game)?;
+    match play.settle() {
+        Ok(()) => readable_lines(alloc, &layout, &play.here(), listing),
         Err(Unsettled::Memory) => Err(AllocError),
         Err(_) => over(alloc),
     }
@@ -119,21 +115,18 @@ pub(crate) fn readable_listing(
 /// The lines of a listing, with each move as people read it, up to one that isn't legal at the place.
 fn readable_lines(
     alloc: Global,
-    game: &PlayedGame,
     layout: &Layout,
-    place: &Place,
+    here: &GamePlace<'_>,
     listing: &[u8],
-) -> Result<Report, AllocError>
-    requires { IsPlaceOf game.now place.now }
-{
+) -> Result<Report, AllocError> {
     let writer = MoveWriter {
-        speller: MoveSpeller::new(game.as_game(), layout),
-        pieces: place.state.pieces(),
+        speller: MoveSpeller::new(here.game(), layout),
+        pieces: here.pieces(),
     };
     let mut text = Vec::new(alloc);
     let mut status = Status::Success;
     for (index, line) in listing.split(|byte| *byte == b'\n').enumerate() {
-        if !is_right(game, place, line)? {
+        if !is_right(here, line)? {
             text.extend_from_slice(b"line ")?;
             write_number(index.saturating_add(1) as u64, &mut text)?;
             text.extend_from_slice(b": no legal move of the opening\n")?;
@@ -146,14 +139,12 @@ fn readable_lines(
 }
 
 /// Whether a line of a listing is no move, or one that is legal at the place.
-fn is_right(game: &PlayedGame, place: &Place, line: &[u8]) -> Result<bool, AllocError>
-    requires { IsPlaceOf game.now place.now }
-{
+fn is_right(here: &GamePlace<'_>, line: &[u8]) -> Result<bool, AllocError> {
     let Some(pairs) = listed_in(line) else {
         return Ok(true);
     };
-    let mut workspace = game.workspace();
-    match game.try_move(place, &pairs, &mut workspace) {
+    let mut workspace = here.played().workspace();
+    match here.try_move(&pairs, &mut workspace) {
         Ok(to) => Ok(to.is_some()),
         Err(Over::Memory) => Err(AllocError),
         Err(_) => Ok(false),
@@ -161,19 +152,12 @@ fn is_right(game: &PlayedGame, place: &Place, line: &[u8]) -> Result<bool, Alloc
 }
 
 /// The legal moves of a place.
-fn moves_at(
-    alloc: Global,
-    game: &PlayedGame,
-    layout: &Layout,
-    place: &Place,
-) -> Result<Report, AllocError>
-    requires { IsPlaceOf game.now place.now }
-{
-    match game.list_moves(place, MOST) {
+fn moves_at(alloc: Global, layout: &Layout, here: &GamePlace<'_>) -> Result<Report, AllocError> {
+    match here.list_moves(MOST) {
         Ok(listed) => {
             let writer = MoveWriter {
-                speller: MoveSpeller::new(game.as_game(), layout),
-                pieces: place.state.pieces(),
+                speller: MoveSpeller::new(here.game(), layout),
+                pieces: here.pieces(),
             };
             writer.report(alloc, &listed.moves, listed.cut)
         }

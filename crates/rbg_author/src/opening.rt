@@ -1,10 +1,8 @@
 //! What an author is warned of in the opening of a game, before the first move of a player.
-ghost use Rattle.rbg_rules.specs.Meaning.{IsPlaceOf};
-
 use rbg_explain::{Diagnostic, Severity};
 use rbg_game::Game;
 use rbg_macro::{Symbol, Token};
-use rbg_moves::{Over, Place, PlayedGame, Unsettled, Workspace};
+use rbg_moves::{Over, PlayedGame, Playthrough, Unsettled};
 use std::alloc::{AllocError, Global};
 
 /// How the opening goes.
@@ -71,24 +69,17 @@ fn rules_head(tokens: &[Token<'_>]) -> (usize, usize) {
 /// How the opening of a game goes.
 fn opening_of(alloc: Global, game: Game) -> Result<Opening, AllocError> {
     let game = PlayedGame::new(alloc, game)?;
-    let mut place = game.start()?;
-    let mut workspace = game.workspace();
-    match game.settle(&mut place, &mut workspace) {
-        Ok(()) | Err(Unsettled::Heavy) => first_question(&game, &mut place, &mut workspace),
+    let mut play = Playthrough::start(&game)?;
+    match play.settle() {
+        Ok(()) | Err(Unsettled::Heavy) => first_question(&mut play),
         Err(Unsettled::Endless) => Ok(Opening::Endless),
         Err(Unsettled::Memory) => Err(AllocError),
     }
 }
 
 /// What comes of the question whether there is a legal move.
-fn first_question(
-    game: &PlayedGame,
-    place: &mut Place,
-    workspace: &mut Workspace,
-) -> Result<Opening, AllocError>
-    requires { IsPlaceOf game.now place.old }
-{
-    match game.has_move(place, workspace) {
+fn first_question(play: &mut Playthrough<'_>) -> Result<Opening, AllocError> {
+    match play.has_move() {
         Ok(true) => Ok(Opening::Goes),
         Ok(false) => Ok(Opening::Finished),
         Err(Over::Wide) => Ok(Opening::Wide),

@@ -4,7 +4,7 @@ ghost use Rattle.rbg_record.specs.Judged.{IsMisfit};
 ghost use Rattle.rbg_operations.specs.After.{IsMovesAfter};
 
 use crate::place::place_lines;
-use rbg_moves::PlayedGame;
+use rbg_moves::{GamePlace, PlayedGame};
 use rbg_record::{Misfit, place_after};
 use std::alloc::Global;
 
@@ -15,6 +15,6 @@ pub fn moves_beyond(alloc: Global, game: &PlayedGame, bytes: &[u8]) -> Result<Ve
     ensures misfit { IfErr result (IsMisfit game.now bytes.now) }
 {
     let place = place_after(game, bytes)?;
-    let lines = place_lines(alloc, game, &place)?;
+    let lines = place_lines(alloc, &GamePlace::new(game, &place))?;
     Ok(lines)
 }

@@ -3,7 +3,7 @@ use Rattle.std.proofs.Common.{◌≡◌, ◌↔◌, ℕ, false, List, [], refl, 
 use Rattle.std.proofs.lemmas.List.Elements.{All-contains}
 use Rattle.rbg_board.specs.Graph.{Graph}
 use Rattle.rbg_game.specs.Loading.{Loads}
-use Rattle.rbg_match.specs.History.{start_place}
+use Rattle.rbg_moves.specs.Starting.{start_place}
 use Rattle.rbg_moves.specs.Listing.{IsListed}
 use Rattle.rbg_moves.specs.Settling.{Settles}
 use Rattle.rbg_rules.specs.Meaning.{AbstractGame, AbstractPlace, Expression, IsGame, IsLegal, IsPlaceOf}

@@ -4,7 +4,7 @@ use Rattle.std.specs.Prelude.{◌≡◌, ℕ, List, []}
 use Rattle.rbg_rules.specs.Meaning.{AbstractGame, AbstractPlace, Expression}
 use Rattle.rbg_moves.specs.Settling.{Settles}
 use Rattle.rbg_game.specs.Loading.{Loads}
-use Rattle.rbg_match.specs.History.{start_place}
+use Rattle.rbg_moves.specs.Starting.{start_place}
 use Rattle.rbg_record.specs.Reaching.{IsPlaceAfter}
 use Rattle.rbg_position.specs.Onward.{GoesOnAs, HaveSameRest}
 use Rattle.rbg_position.specs.Renumbering.{number_in}

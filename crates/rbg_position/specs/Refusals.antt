@@ -5,7 +5,7 @@ use Rattle.rbg_moves.specs.Listing.{IsListed}
 use Rattle.rbg_moves.specs.Settling.{Settles, MeetsHeavy, IsEndless}
 use Rattle.rbg_game.specs.Loading.{Loads, IsMemory, IsRefused as IsRefusedText}
 use Rattle.rbg_game.specs.declared.error.LoadError.{LoadError}
-use Rattle.rbg_match.specs.History.{start_place}
+use Rattle.rbg_moves.specs.Starting.{start_place}
 use Rattle.rbg_record.specs.declared.fault.Misfit.{Misfit}
 use Rattle.rbg_record.specs.Judged.{IsMisfit}
 use Rattle.rbg_record.specs.Reaching.{IsPlaceAfter}

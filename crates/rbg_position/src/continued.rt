@@ -1,7 +1,6 @@
 //! The description of a place by what the keeper does first and by the rest of the rules.
 ghost use Rattle.std.specs.Prelude.{◌≡◌, ◌≤◌, IfOk, IfSome, IsTrue, length};
 ghost use Rattle.rbg_game.specs.Loading.{Loads};
-ghost use Rattle.rbg_rules.specs.Meaning.{IsPlaceOf};
 ghost use Rattle.rbg_position.specs.Onward.{HaveSameRest, HaveSameThings};
 ghost use Rattle.rbg_position.specs.Positions.{GoesOnFrom, SettlesWithRest, game_from};
 ghost use Rattle.rbg_position.specs.Renumbering.{number_in};
@@ -10,8 +9,8 @@ use crate::board::board_section;
 use crate::error::PositionError;
 use crate::names::same_names;
 use crate::numbering::old_numbers;
-use crate::opening::settle;
-use crate::place_values::{compare, pieces_of};
+use crate::opening::settled;
+use crate::place_values::compare;
 use crate::rest::push_rest;
 use crate::same_board::is_board_with;
 use crate::same_rest::{LastAction, same_rest};
@@ -21,7 +20,7 @@ use crate::whole_text::{Opening, push_values};
 use rbg_base::{Direction, Memory, Piece, Position};
 use rbg_game::{Game, load};
 use rbg_macro::Tokens;
-use rbg_moves::{Place, PlayedGame};
+use rbg_moves::{GamePlace, Place, PlayedGame};
 use std::alloc::Global;
 
 /// The description of a place.
@@ -47,33 +46,25 @@ struct Arrival<'a> {
     way: &'a [Direction],
 }
 
-/// A place of a game.
-#[derive(Clone, Copy)]
-struct GamePlace<'a> {
-    game: &'a PlayedGame,
-    place: &'a Place,
-}
-
 /// The description of a place by the rest of the rules after its last action, or None if none was found.
 pub(crate) fn continued(
     alloc: Global,
     text: &[u8],
     tokens: &Tokens<'_>,
-    game: &PlayedGame,
-    place: &Place,
+    here: &GamePlace<'_>,
 ) -> Result<Option<Setup>, Memory>
-    requires { IsPlaceOf game.now place.now }
     ensures { IfOk result (λ new. IfSome new (λ new.
-        GoesOnFrom game.now place.now new.text.items new.numbers.items)) }
+        GoesOnFrom here.now.game here.now.place new.text.items new.numbers.items)) }
 {
+    let place = here.place();
     let Some(last) = place.after else {
         return Ok(None);
     };
-    match way_to(alloc, game.as_game().board(), place.state.vertex())? {
+    match way_to(alloc, here.game().board(), place.state.vertex())? {
         Some(way) => {
             let old = OldText { text, tokens };
             let way = way.as_slice();
-            right(alloc, old, game, place, Arrival { last, way })
+            right(alloc, old, here, Arrival { last, way })
         }
         None => Ok(None),
     }
@@ -83,18 +74,16 @@ pub(crate) fn continued(
 fn right(
     alloc: Global,
     old: OldText<'_>,
-    game: &PlayedGame,
-    place: &Place,
+    here: &GamePlace<'_>,
     arrival: Arrival<'_>,
 ) -> Result<Option<Setup>, Memory>
-    requires { IsPlaceOf game.now place.now }
     ensures { IfOk result (λ new. IfSome new (λ new.
-        GoesOnFrom game.now place.now new.text.items new.numbers.items)) }
+        GoesOnFrom here.now.game here.now.place new.text.items new.numbers.items)) }
 {
-    let Some(setup) = written(alloc, old, game.as_game(), place, arrival)? else {
+    let Some(setup) = written(alloc, old, here, arrival)? else {
         return Ok(None);
     };
-    if is_right(alloc, &setup, game, place)? {
+    if is_right(alloc, &setup, here)? {
         Ok(Some(setup))
     } else {
         Ok(None)
@@ -106,26 +95,24 @@ fn right(
 fn written(
     alloc: Global,
     old: OldText<'_>,
-    game: &Game,
-    place: &Place,
+    here: &GamePlace<'_>,
     arrival: Arrival<'_>,
-) -> Result<Option<Setup>, Memory>
-    requires { IsPlaceOf game.now place.now }
-{
+) -> Result<Option<Setup>, Memory> {
+    let game = here.game();
     let rules = game.rules();
     let mut parts = Vec::new(alloc);
     if !push_rest(&rules.tree, arrival.last, &rules.actions, &mut parts)? {
         return Ok(None);
     }
     let mut values = Vec::new(alloc);
-    push_values(game.variables(), place, &mut values)?;
+    push_values(game.variables(), here.place(), &mut values)?;
     let opening = Opening {
         values: values.as_slice(),
         way: arrival.way,
-        player: place.state.player(),
+        player: here.player(),
     };
     let numbers = old_numbers(alloc, opening.len(), &parts)?;
-    let section = board_section(alloc, old.tokens, game, pieces_of(place))?;
+    let section = board_section(alloc, old.tokens, game, here.pieces())?;
     let speller = Speller { alloc, game };
     let mut out = Vec::new(alloc);
     out.extend_from_slice(comments_before(old))?;
@@ -149,17 +136,16 @@ fn comments_before<'a>(old: OldText<'a>) -> &'a [u8] {
 }
 
 /// Whether a text is that of a game from whose beginning play goes on as from the place.
-fn is_right(alloc: Global, setup: &Setup, game: &PlayedGame, place: &Place) -> Result<bool, Memory>
-    requires { IsPlaceOf game.now place.now }
-    ensures { IfOk result (λ is. IsTrue is →
-        GoesOnFrom game.now place.now setup.now.text.items setup.now.numbers.items) }
+fn is_right(alloc: Global, setup: &Setup, here: &GamePlace<'_>) -> Result<bool, Memory>
+    ensures { IfOk result (λ is. IsTrue is → GoesOnFrom here.now.game here.now.place
+        setup.now.text.items setup.now.numbers.items) }
 {
     let Some(other) = loaded(alloc, &setup.text)? else {
         return Ok(false);
     };
-    if is_game_from(&other, game.as_game(), pieces_of(place)) {
+    if is_game_from(&other, here.game(), here.pieces()) {
         let played = PlayedGame::new(alloc, other)?;
-        begins_alike(alloc, &played, game, place, &setup.numbers)
+        begins_alike(alloc, &played, here, &setup.numbers)
     } else {
         Ok(false)
     }
@@ -192,26 +178,18 @@ fn is_game_from(new: &Game, old: &Game, pieces: &[Piece]) -> bool
 fn begins_alike(
     alloc: Global,
     new: &PlayedGame,
-    old: &PlayedGame,
-    place: &Place,
+    there: &GamePlace<'_>,
     numbers: &[Position],
 ) -> Result<bool, Memory>
-    requires things { HaveSameThings new.now old.now }
-    requires values { length place.now.state.values ≡ length new.now.bounds }
+    requires things { HaveSameThings new.now there.now.game }
+    requires values { length there.now.place.state.values ≡ length new.now.bounds }
     ensures { IfOk result (λ alike. IsTrue alike →
-        SettlesWithRest new.now old.now place.now (number_in numbers.now)) }
+        SettlesWithRest new.now there.now.game there.now.place (number_in numbers.now)) }
 {
     new.is_accepted();
-    old.is_accepted();
-    let mut here = new.start()?;
-    match settle(alloc, new, &mut here) {
-        Ok(()) => {
-            let here = GamePlace {
-                game: new,
-                place: &here,
-            };
-            goes_on(alloc, here, GamePlace { game: old, place }, numbers)
-        }
+    there.played().is_accepted();
+    match settled(new) {
+        Ok(play) => goes_on(alloc, &play.here(), there, numbers),
         Err(PositionError::Memory) => Err(Memory),
         Err(_) => Ok(false),
     }
@@ -220,19 +198,18 @@ fn begins_alike(
 /// Whether a place of a new game and one of an old game have the same semi-state and the same rest of the rules.
 fn goes_on(
     alloc: Global,
-    new: GamePlace<'_>,
-    old: GamePlace<'_>,
+    new: &GamePlace<'_>,
+    old: &GamePlace<'_>,
     numbers: &[Position],
 ) -> Result<bool, Memory>
-    requires here { IsPlaceOf new.game.now new.place.now }
-    requires values { length old.place.now.state.values ≡ length new.game.now.bounds }
+    requires { length old.now.place.state.values ≡ length new.now.game.bounds }
     ensures { IfOk result (λ alike. IsTrue alike →
-        HaveSameRest new.entry.game.now new.entry.place.now old.entry.game.now old.entry.place.now
+        HaveSameRest new.now.game new.now.place old.now.game old.now.place
         (number_in numbers.now)) }
 {
-    let here = new.place;
-    let there = old.place;
-    if !same_states(new.game.as_game().variables(), here, there) {
+    let here = new.place();
+    let there = old.place();
+    if !same_states(new.game().variables(), here, there) {
         return Ok(false);
     }
     let Some(first) = here.after else {
@@ -242,11 +219,11 @@ fn goes_on(
         return Ok(false);
     };
     let first = LastAction {
-        rules: new.game.as_game().rules(),
+        rules: new.game().rules(),
         position: first,
     };
     let last = LastAction {
-        rules: old.game.as_game().rules(),
+        rules: old.game().rules(),
         position: last,
     };
     same_rest(alloc, first, last, numbers)

@@ -1,7 +1,7 @@
 //! The description of a place.
 ghost use Rattle.std.specs.Prelude.{◌≡◌, ℕ, List, [], IfErr, IfOk};
 ghost use Rattle.rbg_game.specs.Loading.{IsRefused, Loads};
-ghost use Rattle.rbg_rules.specs.Meaning.{IsPlaceOf, AbstractGame};
+ghost use Rattle.rbg_rules.specs.Meaning.{AbstractGame};
 ghost use Rattle.rbg_position.specs.Same.{IsNarrow};
 ghost use Rattle.rbg_macro.specs.Text.{HasTokens};
 ghost use Rattle.rbg_position.specs.internal.Texts.{IsNoBeginning, IsNoText};
@@ -14,11 +14,10 @@ use crate::continued::{Setup, continued};
 use crate::error::PositionError;
 use crate::new_text::rewritten;
 use crate::opening::begin;
-use crate::place_values::pieces_of;
 use crate::same_game::is_game_with;
 use rbg_game::{Game, LoadError, load};
 use rbg_macro::Tokens;
-use rbg_moves::{Place, PlayedGame};
+use rbg_moves::{GamePlace, PlayedGame};
 use rbg_record::place_after;
 use std::alloc::Global;
 
@@ -39,7 +38,7 @@ pub fn position(
     ensures refused { IfErr result (IsNoPosition text.now game.now bytes.now) }
 {
     let place = place_after(game, bytes)?;
-    let new = describe_place(alloc, text, tokens, game, &place)?;
+    let new = describe_place(alloc, text, tokens, &GamePlace::new(game, &place))?;
     Ok(new)
 }
 
@@ -48,22 +47,20 @@ fn describe_place(
     alloc: Global,
     text: &[u8],
     tokens: &Tokens<'_>,
-    game: &PlayedGame,
-    place: &Place,
+    here: &GamePlace<'_>,
 ) -> Result<Setup, PositionError>
     requires tokens { HasTokens text.now tokens.now }
-    requires loads { Loads text.now game.now }
-    requires place { IsPlaceOf game.now place.now }
+    requires loads { Loads text.now here.now.game }
     ensures described { IfOk result (λ new.
-        Describes text.now game.now place.now new.text.items new.numbers.items) }
-    ensures refused { IfErr result (IsUndescribed text.now game.now place.now) }
+        Describes text.now here.now.game here.now.place new.text.items new.numbers.items) }
+    ensures refused { IfErr result (IsUndescribed text.now here.now.game here.now.place) }
 {
-    match describe(alloc, text, tokens, game, place) {
+    match describe(alloc, text, tokens, here) {
         Ok(text) => Ok(Setup {
             text,
             numbers: Vec::new(alloc),
         }),
-        Err(error) => match continued(alloc, text, tokens, game, place)? {
+        Err(error) => match continued(alloc, text, tokens, here)? {
             Some(new) => Ok(new),
             None => Err(error),
         },
@@ -75,69 +72,58 @@ fn describe(
     alloc: Global,
     text: &[u8],
     tokens: &Tokens<'_>,
-    game: &PlayedGame,
-    place: &Place,
+    here: &GamePlace<'_>,
 ) -> Result<Vec<u8>, PositionError>
     requires tokens { HasTokens text.now tokens.now }
-    requires loads { Loads text.now game.now }
-    requires place { IsPlaceOf game.now place.now }
-    ensures described { IfOk result (λ new. IsDescription text.now game.now place.now new.items) }
-    ensures refused { IfErr result (IsUndescribed text.now game.now place.now) }
+    requires loads { Loads text.now here.now.game }
+    ensures described { IfOk result (λ new.
+        IsDescription text.now here.now.game here.now.place new.items) }
+    ensures refused { IfErr result (IsUndescribed text.now here.now.game here.now.place) }
 {
-    let section = board_section(alloc, tokens, game.as_game(), pieces_of(place))?;
+    let section = board_section(alloc, tokens, here.game(), here.pieces())?;
     let new = match rewritten(alloc, text, tokens, &section)? {
         Some(new) => new,
         None => return Err(PositionError::Refused),
     };
-    begin_at(alloc, game, place, &new)?;
+    begin_at(alloc, here, &new)?;
     Ok(new)
 }
 
 /// Whether a text describes the game with the pieces of the place on the board, and play goes on from its beginning as
 /// from the place.
-fn begin_at(
-    alloc: Global,
-    game: &PlayedGame,
-    place: &Place,
-    new: &[u8],
-) -> Result<(), PositionError>
-    requires narrow { IsNarrow game.now.board }
-    requires place { IsPlaceOf game.now place.now }
-    ensures loads { IfOk result (λ _. Loads new.now (game_at game.now place.now)) }
-    ensures begins { IfOk result (λ _.
-        SettlesAs (game_at game.now place.now) game.now place.now (number_in [])) }
-    ensures refused { IfErr result (IsNoBeginning new.now (game_at game.now place.now) game.now place.now) }
+fn begin_at(alloc: Global, here: &GamePlace<'_>, new: &[u8]) -> Result<(), PositionError>
+    requires { IsNarrow here.now.game.board }
+    ensures loads { IfOk result (λ _. Loads new.now (game_at here.now.game here.now.place)) }
+    ensures begins { IfOk result (λ _. SettlesAs (game_at here.now.game here.now.place)
+        here.now.game here.now.place (number_in [])) }
+    ensures refused { IfErr result (IsNoBeginning new.now
+        (game_at here.now.game here.now.place) here.now.game here.now.place) }
 {
-    let other = new_game(alloc, game, place, new)?;
-    begin(alloc, other, game, place)?;
+    let other = new_game(alloc, here, new)?;
+    begin(alloc, other, here)?;
     Ok(())
 }
 
 /// The game of the new text, if it is the old one with the pieces of the place on the board.
-fn new_game(
-    alloc: Global,
-    game: &PlayedGame,
-    place: &Place,
-    new: &[u8],
-) -> Result<Game, PositionError>
-    requires narrow { IsNarrow game.now.board }
-    ensures loads { IfOk result (λ _. Loads new.now (game_at game.now place.now)) }
-    ensures is { IfOk result (λ other. other ≡ game_at game.now place.now) }
-    ensures refused { IfErr result (IsNoText new.now (game_at game.now place.now)) }
+fn new_game(alloc: Global, here: &GamePlace<'_>, new: &[u8]) -> Result<Game, PositionError>
+    requires narrow { IsNarrow here.now.game.board }
+    ensures loads { IfOk result (λ _. Loads new.now (game_at here.now.game here.now.place)) }
+    ensures is { IfOk result (λ other. other ≡ game_at here.now.game here.now.place) }
+    ensures refused { IfErr result (IsNoText new.now (game_at here.now.game here.now.place)) }
 {
     let other = loaded(alloc, new)?;
-    judge(alloc, &other, game, place)?;
+    judge(alloc, &other, here)?;
     Ok(other)
 }
 
 /// Whether a game is another one with the pieces of the place on the board.
-fn judge(alloc: Global, other: &Game, game: &PlayedGame, place: &Place) -> Result<(), PositionError>
-    requires narrow { IsNarrow game.now.board }
-    ensures is { IfOk result (λ _. other.now ≡ game_at game.now place.now) }
+fn judge(alloc: Global, other: &Game, here: &GamePlace<'_>) -> Result<(), PositionError>
+    requires narrow { IsNarrow here.now.game.board }
+    ensures is { IfOk result (λ _. other.now ≡ game_at here.now.game here.now.place) }
     ensures apart { (new : List ℕ) → Loads new other.now
-        → IfErr result (IsNoText new (game_at game.now place.now)) }
+        → IfErr result (IsNoText new (game_at here.now.game here.now.place)) }
 {
-    if is_game_with(alloc, other, game.as_game(), pieces_of(place))? {
+    if is_game_with(alloc, other, here.game(), here.pieces())? {
         Ok(())
     } else {
         Err(PositionError::Refused)

@@ -1,7 +1,7 @@
 //! The beginning of a game, compared with a place.
 ghost use Rattle.std.specs.Prelude.{◌≡◌, [], IfErr, IfOk, length};
-ghost use Rattle.rbg_rules.specs.Meaning.{IsPlaceOf};
 ghost use Rattle.rbg_moves.specs.Settling.{Settles};
+ghost use Rattle.rbg_moves.specs.Starting.{start_place};
 ghost use Rattle.rbg_position.specs.Positions.{SettlesAs, game_at};
 ghost use Rattle.rbg_position.specs.Refusals.{BeginsOtherwise, IsUnsettled};
 ghost use Rattle.rbg_position.specs.Renumbering.{number_in};
@@ -11,66 +11,50 @@ use crate::error::PositionError;
 use crate::place_values::compare;
 use crate::same_moves::same_moves;
 use rbg_game::Game;
-use rbg_moves::{Place, PlayedGame, Unsettled, Workspace};
+use rbg_moves::{GamePlace, PlayedGame, Playthrough, Unsettled};
 use std::alloc::Global;
 
 /// Whether play of a game with other pieces on its board goes on as from a place, after the keeper's first moves.
 /// Returns an error if it doesn't, or if that isn't known.
-pub(crate) fn begin(
-    alloc: Global,
-    new: Game,
-    old: &PlayedGame,
-    place: &Place,
-) -> Result<(), PositionError>
-    requires is { new ≡ game_at old.now place.now }
-    requires place { IsPlaceOf old.now place.now }
-    requires values { length place.now.state.values ≡ length new.bounds }
-    ensures begins { IfOk result (λ _. SettlesAs new old.now place.now (number_in [])) }
-    ensures otherwise { IfErr result (BeginsOtherwise new old.now place.now) }
+pub(crate) fn begin(alloc: Global, new: Game, there: &GamePlace<'_>) -> Result<(), PositionError>
+    requires is { new ≡ game_at there.now.game there.now.place }
+    requires values { length there.now.place.state.values ≡ length new.bounds }
+    ensures begins { IfOk result (λ _.
+        SettlesAs new there.now.game there.now.place (number_in [])) }
+    ensures otherwise { IfErr result (BeginsOtherwise new there.now.game there.now.place) }
 {
     let new = PlayedGame::new(alloc, new)?;
-    begin_played(alloc, &new, old, place)
+    begin_played(&new, there)
 }
 
-fn begin_played(
-    alloc: Global,
-    new: &PlayedGame,
-    old: &PlayedGame,
-    place: &Place,
-) -> Result<(), PositionError>
-    requires is { new.now ≡ game_at old.now place.now }
-    requires place { IsPlaceOf old.now place.now }
-    requires values { length place.now.state.values ≡ length new.now.bounds }
-    ensures begins { IfOk result (λ _. SettlesAs new.now old.now place.now (number_in [])) }
-    ensures otherwise { IfErr result (BeginsOtherwise new.now old.now place.now) }
+fn begin_played(new: &PlayedGame, there: &GamePlace<'_>) -> Result<(), PositionError>
+    requires is { new.now ≡ game_at there.now.game there.now.place }
+    requires values { length there.now.place.state.values ≡ length new.now.bounds }
+    ensures begins { IfOk result (λ _.
+        SettlesAs new.now there.now.game there.now.place (number_in [])) }
+    ensures otherwise { IfErr result (BeginsOtherwise new.now there.now.game there.now.place) }
 {
-    let mut first = new.start()?;
-    settle(alloc, new, &mut first)?;
-    compare(new.as_game().variables(), &first, place)?;
-    old.is_accepted();
-    if same_moves(new, &first, old, place)? {
+    let play = settled(new)?;
+    compare(new.as_game().variables(), play.place(), there.place())?;
+    there.played().is_accepted();
+    if same_moves(&play.here(), there)? {
         Ok(())
     } else {
         Err(PositionError::Moves)
     }
 }
 
-/// Makes the keeper's moves.
-pub(crate) fn settle(
-    alloc: Global,
-    game: &PlayedGame,
-    place: &mut Place,
-) -> Result<(), PositionError>
-    requires { IsPlaceOf game.now place.old }
-    ensures settles { IfOk result (λ _. Settles game.now place.old place.new) }
-    ensures place { IsPlaceOf game.now place.new }
-    ensures unsettled { IfErr result (IsUnsettled game.now place.old) }
+/// The place to which the keeper's first moves lead.
+pub(crate) fn settled(game: &PlayedGame) -> Result<Playthrough<'_>, PositionError>
+    ensures game { IfOk result (λ play. play.game ≡ game.now) }
+    ensures settles { IfOk result (λ play. Settles game.now (start_place game.now) play.place) }
+    ensures unsettled { IfErr result (IsUnsettled game.now (start_place game.now)) }
 {
-    let mut workspace = Workspace::new(alloc);
-    if let Err(unsettled) = game.settle(place, &mut workspace) {
+    let mut play = Playthrough::start(game)?;
+    if let Err(unsettled) = play.settle() {
         return Err(refusal_of(unsettled));
     }
-    Ok(())
+    Ok(play)
 }
 
 /// The error for a game whose keeper's first moves lead to no place.

@@ -50,7 +50,7 @@ fn compare_values(count: usize, at: &Place, place: &Place) -> Result<(), Positio
 }
 
 /// The pieces on the vertices.
-pub(crate) fn pieces_of(place: &Place) -> &[Piece]
+fn pieces_of(place: &Place) -> &[Piece]
     ensures { result.now ≡ place.now.state.pieces }
 {
     place.state.pieces()

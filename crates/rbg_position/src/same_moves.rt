@@ -1,11 +1,11 @@
 //! The legal moves at two places, compared.
 ghost use Rattle.std.specs.Prelude.{◌≡◌, ◌↔◌, ℕ, List, IfNone, IfOk, IfSome, IsTrue, false, true};
 ghost use Rattle.rbg_moves.specs.Listing.{IsListed};
-ghost use Rattle.rbg_rules.specs.Meaning.{IsLegal, IsPlaceOf};
+ghost use Rattle.rbg_rules.specs.Meaning.{IsLegal};
 ghost use Rattle.rbg_position.specs.Refusals.{IsUnlisted, MayMovesDiffer, most_compared};
 
 use rbg_base::{Memory, Move, Pair};
-use rbg_moves::{Place, PlayedGame};
+use rbg_moves::GamePlace;
 use rbg_search::Over;
 
 /// How many moves are compared at most.
@@ -13,36 +13,29 @@ const MAX_MOVES: usize = 10_000;
 
 /// Whether the same moves are legal at two places of two games. False also if a question is above the limits, or if
 /// there are too many moves.
-pub(crate) fn same_moves(
-    new: &PlayedGame,
-    here: &Place,
-    old: &PlayedGame,
-    there: &Place,
-) -> Result<bool, Memory>
-    requires here { IsPlaceOf new.now here.now }
-    requires there { IsPlaceOf old.now there.now }
-    ensures same { IfOk result (λ same. same ≡ true →
-        (ps : List (ℕ × ℕ)) → IsLegal new.now here.now ps ↔ IsLegal old.now there.now ps) }
+pub(crate) fn same_moves(here: &GamePlace<'_>, there: &GamePlace<'_>) -> Result<bool, Memory>
+    ensures same { IfOk result (λ same. same ≡ true → (ps : List (ℕ × ℕ)) →
+        IsLegal here.now.game here.now.place ps ↔ IsLegal there.now.game there.now.place ps) }
     ensures apart { IfOk result (λ same. same ≡ false →
-        MayMovesDiffer new.now here.now old.now there.now) }
+        MayMovesDiffer here.now.game here.now.place there.now.game there.now.place) }
 {
-    let Some(new_moves) = all_moves(new, here)? else {
+    let Some(new_moves) = all_moves(here)? else {
         return Ok(false);
     };
-    let Some(old_moves) = all_moves(old, there)? else {
+    let Some(old_moves) = all_moves(there)? else {
         return Ok(false);
     };
     Ok(same_lists(&new_moves, &old_moves))
 }
 
 /// All legal moves at a place in order, or None if there are too many or the question is above the limits.
-fn all_moves(game: &PlayedGame, place: &Place) -> Result<Option<Vec<Move>>, Memory>
-    requires { IsPlaceOf game.now place.now }
+fn all_moves(here: &GamePlace<'_>) -> Result<Option<Vec<Move>>, Memory>
     ensures all { IfOk result (λ moves. IfSome moves (λ moves.
-        IsListed game.now place.now most_compared moves.items false)) }
-    ensures none { IfOk result (λ moves. IfNone moves (IsUnlisted game.now place.now)) }
+        IsListed here.now.game here.now.place most_compared moves.items false)) }
+    ensures none { IfOk result (λ moves.
+        IfNone moves (IsUnlisted here.now.game here.now.place)) }
 {
-    match game.list_moves(place, MAX_MOVES) {
+    match here.list_moves(MAX_MOVES) {
         Ok(listed) => {
             if listed.cut {
                 Ok(None)

@@ -6,7 +6,8 @@ use Rattle.rbg_record.specs.declared.heading.Version.{Version}
 use Rattle.rbg_record.specs.declared.heading.Version.TheVariants.{One, Two}
 use Rattle.rbg_record.specs.Heading.{version_text, SpellsPlayers, SpellsStart}
 use Rattle.rbg_record.proofs.Apart.{headings_apart, one_start}
-use Rattle.rbg_match.proofs.Common.{IsWithinLimits, start_place, latest_moment}
+use Rattle.rbg_moves.specs.Starting.{start_place}
+use Rattle.rbg_match.proofs.Common.{IsWithinLimits, latest_moment}
 use Rattle.rbg_record.proofs.Common.{turn_config, Reached, version_next, players_next, start_next, entry_next, Leads}
 use Rattle.rbg_record.specs.Lines as lines
 

@@ -13,7 +13,7 @@ use Rattle.rbg_record.proofs.LineCommon.{BeginsWith, SpellsIn, unwritten_moment}
 use Rattle.rbg_record.proofs.Apart.{entries_apart, headings_apart, one_start}
 use Rattle.rbg_record.proofs.Stopping.{last_line}
 use Rattle.rbg_record.proofs.Common.{Checked, Good, Bad, RecordError, Form, Over, Memory, IsRightRecord, MatchSoFar, Reached, version_next, nothing_next, entry_next, HasForm, EntryLeads, Leads, LeadTo, IsGoodByLines, IsFormFault, IsBadLine, IsJudged, OneJudgement, GoodByLines}
-use Rattle.rbg_match.specs.History.{start_place}
+use Rattle.rbg_moves.specs.Starting.{start_place}
 use Rattle.rbg_record.specs.Lines as lines
 use Rattle.rbg_record.proofs.Leading.{all_first, all_last, right_is_good}
 use Rattle.rbg_record.proofs.OneEnd.{End, good, bad, misread, Chain, stay, chain_more, IsReading, Stops, one_end}

@@ -11,7 +11,8 @@ use Rattle.rbg_record.proofs.LineCommon.{entry_text, timed_text, EntryHasSpellin
 use Rattle.rbg_record.proofs.Lacking.{version_feedless, players_feedless, start_feedless, entry_feedless, timed_feedless}
 use Rattle.rbg_match.specs.declared.config.Config.{Config}
 use Rattle.rbg_match.specs.declared.made.Made.{Made}
-use Rattle.rbg_match.proofs.Common.{LeadsTo, MadeInTurn, IsInTurn, start_place, latest_moment}
+use Rattle.rbg_moves.specs.Starting.{start_place}
+use Rattle.rbg_match.proofs.Common.{LeadsTo, MadeInTurn, IsInTurn, latest_moment}
 use Rattle.rbg_match.specs.History as history
 use Rattle.rbg_record.specs.Entries.{unwritten_moment}
 use Rattle.rbg_record.proofs.Common.{PlainMove, PlainRecord, TimedRecord, AbstractRecord, plain, timed, plain_entry, made_entry, plain_entries, timed_entries, texts_of, HasSpelling, turn_config, recorded_play, made_at, IsRight, IsRightPlain, IsRightTimed, IsRightRecord, entry_next, nothing_next, LeadTo, IsGoodByLines}

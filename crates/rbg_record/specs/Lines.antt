@@ -3,7 +3,8 @@ use Rattle.std.specs.Prelude.{◌≡◌, ◌≢◌, ℕ, ◌≤◌, List, [], �
 use Rattle.rbg_wire.specs.declared.outcome.Outcome.{Outcome}
 use Rattle.rbg_rules.specs.Meaning.{AbstractGame, AbstractPlace, Legal}
 use Rattle.rbg_match.specs.Config.{IsWithinLimits}
-use Rattle.rbg_match.specs.History.{start_place, IsInTurn, FitsOutcome}
+use Rattle.rbg_moves.specs.Starting.{start_place}
+use Rattle.rbg_match.specs.History.{IsInTurn, FitsOutcome}
 use Rattle.rbg_match.specs.Limits.{latest_moment}
 use Rattle.rbg_match.specs.Play.{AbstractPlay}
 use Rattle.rbg_record.specs.declared.entry.Entry.TheVariants.{Move, End}

@@ -19,7 +19,7 @@ ghost use Rattle.rbg_record.specs.internal.Faults.{IsOverOrMemory};
 ghost use Rattle.rbg_record.specs.internal.Reading.{SomeIsLegal};
 
 use crate::fault::LineFault;
-use rbg_moves::{Move, Place, PlayedGame};
+use rbg_moves::{GamePlace, Move, Place};
 use rbg_rules::Game;
 use rbg_wire::{Scores, Words};
 
@@ -40,44 +40,41 @@ pub(crate) fn are_players(game: &Game, names: Words<'_>) -> bool
 }
 
 /// Whether these are the players' values at a place.
-pub(crate) fn are_scores(game: &PlayedGame, place: &Place, scores: &Scores) -> bool
-    requires { IsPlaceOf game.now place.now }
-    ensures { IsTrue result ↔ (scores.now ≡ take (length game.now.players) place.now.state.values) }
+pub(crate) fn are_scores(here: &GamePlace<'_>, scores: &Scores) -> bool
+    ensures { IsTrue result ↔ (scores.now
+        ≡ take (length here.now.game.players) here.now.place.state.values) }
 {
-    let found = game.scores(place);
+    let found = here.scores();
     are_same(scores.as_slice(), found.as_slice())
 }
 
 /// Whether play is finished at a place.
-pub(crate) fn is_finished(game: &PlayedGame, place: &Place) -> Result<bool, LineFault>
-    requires { IsPlaceOf game.now place.now }
-    ensures finished { IfOk result (λ finished. finished ≡ true → Finished game.now place.now) }
-    ensures going { IfOk result (λ finished. finished ≡ false → SomeIsLegal game.now place.now) }
-    ensures heavy { result ≡ Err LineFault.Over → IsHeavyToFind game.now place.now }
+pub(crate) fn is_finished(here: &GamePlace<'_>) -> Result<bool, LineFault>
+    ensures finished { IfOk result (λ finished.
+        finished ≡ true → Finished here.now.game here.now.place) }
+    ensures going { IfOk result (λ finished.
+        finished ≡ false → SomeIsLegal here.now.game here.now.place) }
+    ensures heavy { result ≡ Err LineFault.Over → IsHeavyToFind here.now.game here.now.place }
     ensures other { IfErr result IsOverOrMemory }
 {
-    let mut workspace = game.workspace();
-    let mut lent = place.try_clone()?;
-    let found = game.find_move(&mut lent, &mut workspace)?;
+    let mut play = here.play_on()?;
+    let found = play.find()?;
     Ok(found.is_none())
 }
 
 /// The place after the move of these pairs, or None if the move is not legal.
-pub(crate) fn try_move(
-    game: &PlayedGame,
-    place: &Place,
-    pairs: &Move,
-) -> Result<Option<Place>, LineFault>
-    requires { IsPlaceOf game.now place.now }
-    ensures legal { IfOk result (λ after. IfSome after (Legal game.now place.now pairs.now)) }
-    ensures in_game { IfOk result (λ after. IfSome after (IsPlaceOf game.now)) }
+pub(crate) fn try_move(here: &GamePlace<'_>, pairs: &Move) -> Result<Option<Place>, LineFault>
+    ensures legal { IfOk result (λ after.
+        IfSome after (Legal here.now.game here.now.place pairs.now)) }
+    ensures in_game { IfOk result (λ after. IfSome after (IsPlaceOf here.now.game)) }
     ensures illegal { IfOk result (λ after.
-        IfNone after ((to : AbstractPlace) → ¬ Legal game.now place.now pairs.now to)) }
-    ensures heavy { result ≡ Err LineFault.Over → IsHeavyToTry game.now place.now pairs.now }
+        IfNone after ((to : AbstractPlace) → ¬ Legal here.now.game here.now.place pairs.now to)) }
+    ensures heavy { result ≡ Err LineFault.Over
+        → IsHeavyToTry here.now.game here.now.place pairs.now }
     ensures other { IfErr result IsOverOrMemory }
 {
-    let mut workspace = game.workspace();
-    Ok(game.try_move(place, pairs, &mut workspace)?)
+    let mut workspace = here.played().workspace();
+    Ok(here.try_move(pairs, &mut workspace)?)
 }
 
 fn are_same(one: &[u64], other: &[u64]) -> bool

@@ -21,7 +21,7 @@ use crate::line::{Content, RecordLine};
 use crate::moments::is_lawful;
 use crate::reached::{MatchSoFar, Reached};
 use rbg_match::LATEST_MOMENT;
-use rbg_moves::{Move, Place, PlayedGame};
+use rbg_moves::{GamePlace, Move, PlayedGame};
 use rbg_wire::{Outcome, Words};
 
 /// What a line leads to after the lines so far. The first line of a record is judged after `Reached::Version`. A caller
@@ -151,7 +151,7 @@ fn make_move(
     ensures refused { IfErr result (RefusesEntry game.now match_so_far.now
         (record { at = at; entry = MoveEntry player pairs.now })) }
 {
-    match try_move(game, &match_so_far.place, pairs)? {
+    match try_move(&GamePlace::new(game, &match_so_far.place), pairs)? {
         None => Err(LineFault::Bad),
         Some(place) => Ok(Reached::Entry(MatchSoFar {
             version: match_so_far.version,
@@ -181,8 +181,9 @@ fn end(
     if is_heavy(&outcome) {
         return Ok(Reached::Nothing);
     }
-    let finished = is_finished(game, &match_so_far.place)?;
-    if ends_so(game, &match_so_far.place, finished, &outcome) {
+    let here = GamePlace::new(game, &match_so_far.place);
+    let finished = is_finished(&here)?;
+    if ends_so(&here, finished, &outcome) {
         Ok(Reached::Nothing)
     } else {
         Err(LineFault::Bad)
@@ -197,12 +198,11 @@ fn is_heavy(outcome: &Option<Outcome>) -> bool
 }
 
 /// Whether the match could end with this outcome at a place, if play is finished there or not.
-fn ends_so(game: &PlayedGame, place: &Place, finished: bool, outcome: &Option<Outcome>) -> bool
-    requires { IsPlaceOf game.now place.now }
-    ensures { IsTrue result ↔ EndsSo game.now place.now finished outcome.now }
+fn ends_so(here: &GamePlace<'_>, finished: bool, outcome: &Option<Outcome>) -> bool
+    ensures { IsTrue result ↔ EndsSo here.now.game here.now.place finished outcome.now }
 {
     match outcome {
-        Some(Outcome::Finished { scores }) => finished && are_scores(game, place, scores),
+        Some(Outcome::Finished { scores }) => finished && are_scores(here, scores),
         Some(Outcome::Heavy) => true,
         Some(Outcome::Time { .. }) => !finished,
         Some(Outcome::Refusals { .. }) => !finished,

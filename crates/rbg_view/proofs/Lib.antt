@@ -11,5 +11,4 @@ mod Plain
 mod PageReading
 mod Spots
 mod Standing
-mod Taking
 mod Writing

@@ -4,7 +4,7 @@ use Rattle.rbg_wire.specs.Bytes.{LacksByte}
 use Rattle.rbg_wire.specs.Lines.{line_feed, lines_of}
 use Rattle.rbg_wire.specs.declared.outcome.Outcome.{Outcome}
 use Rattle.rbg_wire.specs.declared.outcome.Outcome.TheVariants.{Heavy as HeavyEnd}
-use Rattle.rbg_rules.specs.Meaning.{AbstractGame, start_of}
+use Rattle.rbg_rules.specs.Meaning.{AbstractGame}
 use Rattle.rbg_record.specs.declared.heading.Version.{Version}
 use Rattle.rbg_record.specs.Heading.{version_text}
 use Rattle.rbg_view.specs.declared.line.RecordEnd.{RecordEnd}
@@ -15,7 +15,8 @@ use Rattle.rbg_view.specs.declared.stop.Stop.TheVariants.{NotLegal, NoMove, Mark
 use Rattle.rbg_view.specs.Endings.{ended_text}
 use Rattle.rbg_view.specs.Lines.{IsEnd, IsOther, IsSilent, HasNoMessage, SaysMessage}
 use Rattle.rbg_view.specs.Moving.{MakesNone, MakesOne, MeetsHeavy, Settles, SettlesHeavy, TiresKeeper}
-use Rattle.rbg_moves.specs.Playing.{Playing}
+use Rattle.rbg_moves.specs.Playing.{Playing, playing_at}
+use Rattle.rbg_moves.specs.Starting.{start_place}
 use Rattle.rbg_view.specs.Readings.{AreReadings, IsSaid, lead_of}
 
 -- Where one stands in a list: where the game stands, what stands before the pairs of a move if the first line of a
@@ -28,7 +29,7 @@ pub record Standing : Type 0 where
 -- before the first line
 abbrev pub first_standing : AbstractGame → Standing
 first_standing game = record {
-  playing = record { game = game; place = record { state = start_of game; last = None }; in_a_row = 0 };
+  playing = playing_at game (start_place game);
   lead = None;
   end = None;
 }

@@ -1,6 +1,6 @@
 -- What the lines of a record tell a page.
 use Rattle.std.specs.Prelude.{◌≡◌, ◌≢◌, ℕ, List, [], ◌∷◌, ◌++◌, Option, Some, None, unwrap_or}
-use Rattle.rbg_rules.specs.Meaning.{AbstractGame, start_of, AbstractPlace}
+use Rattle.rbg_rules.specs.Meaning.{AbstractGame, AbstractPlace}
 use Rattle.rbg_wire.specs.Lines.{line_of}
 use Rattle.rbg_record.specs.declared.entry.Entry.{Entry}
 use Rattle.rbg_record.specs.declared.entry.Entry.TheVariants.{Move}
@@ -11,6 +11,7 @@ use Rattle.rbg_record.specs.NextLine.{BeginsWith}
 use Rattle.rbg_record.specs.Lines.{Reached, version_next, players_next, start_next, entry_next, nothing_next, Leads}
 use Rattle.rbg_record.specs.Reaching.{place_in}
 use Rattle.rbg_record.specs.Right.{IsRightRecord}
+use Rattle.rbg_moves.specs.Starting.{start_place}
 use Rattle.rbg_view.specs.Texts.{escaped}
 use Rattle.rbg_view.specs.Places.{place_text, whole_text}
 
@@ -48,11 +49,8 @@ pub record Told : Type 0 where
   pub place : AbstractPlace
   pub marked : List (ℕ × ℕ)
 
-abbrev pub first_place : AbstractGame → AbstractPlace
-first_place game = record { state = start_of game; last = None }
-
 abbrev pub told_first : AbstractGame → Told
-told_first game = record { lines = line_of (whole_text (first_place game)); place = first_place game; marked = [] }
+told_first game = record { lines = line_of (whole_text (start_place game)); place = start_place game; marked = [] }
 
 -- what is told with one line more, which leads there and may be a player's move
 abbrev pub told_more : Told → (text : List ℕ) → Reached → Option (List (ℕ × ℕ)) → Told

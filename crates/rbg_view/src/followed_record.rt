@@ -10,10 +10,10 @@ ghost use Rattle.rbg_view.specs.Texts.{escaped};
 ghost use Rattle.rbg_view.specs.Places.{place_text, whole_text};
 ghost use Rattle.rbg_view.specs.Telling.{IsByPlayer, IsMoveIn, IsTelling, line_text};
 
-use crate::places::{put_place, put_whole, values_at};
+use crate::places::{put_place, put_whole};
 use crate::texts::put_escaped;
 use rbg_base::{Memory, Move, Pair};
-use rbg_moves::{Place, PlayedGame};
+use rbg_moves::{GamePlace, Place, PlayedGame};
 use rbg_record::{Content, Entry, Misfit, Reached, RecordLine, RecordReader, Timed, judge_line};
 use std::alloc::Global;
 use std::marker::Model;
@@ -77,19 +77,17 @@ impl FollowedRecord {
 /// Appends a line and, if it leads to a place, what is written of this place after the one before.
 #[tactic(auto, unfolding(crate::specs::Telling::line_text))]
 fn put_line(
-    game: &PlayedGame,
     text: &[u8],
-    before: &Place,
+    before: &GamePlace<'_>,
     to: &Reached,
     out: &mut Vec<u8>,
 ) -> Result<(), Memory>
-    requires before { IsPlaceOf game.now before.now }
-    requires reached { IsReachedIn game.now (reached_of to.now) }
+    requires { IsReachedIn before.now.game (reached_of to.now) }
     ensures { OnOk result (out.new.items ≡ out.old.items
-        ++ line_text text.now before.now (reached_of to.now)) }
+        ++ line_text text.now before.now.place (reached_of to.now)) }
 {
     match to {
-        Reached::Entry(standing) => put_place_line(game, text, before, &standing.place, out),
+        Reached::Entry(standing) => put_place_line(text, before, &standing.place, out),
         Reached::Version => put_plain_line(text, out),
         Reached::Players => put_plain_line(text, out),
         Reached::Start => put_plain_line(text, out),
@@ -106,34 +104,31 @@ fn put_plain_line(text: &[u8], out: &mut Vec<u8>) -> Result<(), Memory>
 }
 
 fn put_place_line(
-    game: &PlayedGame,
     text: &[u8],
-    before: &Place,
+    before: &GamePlace<'_>,
     place: &Place,
     out: &mut Vec<u8>,
 ) -> Result<(), Memory>
-    requires before { IsPlaceOf game.now before.now }
-    requires place { IsPlaceOf game.now place.now }
+    requires { IsPlaceOf before.now.game place.now }
     ensures { OnOk result (out.new.items ≡ out.old.items
-        ++ line_of (escaped text.now ++ place_text before.now place.now)) }
+        ++ line_of (escaped text.now ++ place_text before.now.place place.now)) }
 {
     let alloc = *out.allocator();
-    let values_before = values_at(alloc, game.as_game(), before)?;
-    let values = values_at(alloc, game.as_game(), place)?;
+    let values_before = before.values(alloc)?;
+    let values = GamePlace::new(before.played(), place).values(alloc)?;
     put_escaped(text, out)?;
-    put_place(before, &values_before, place, &values, out)?;
+    put_place(before.place(), &values_before, place, &values, out)?;
     out.push(b'\n')?;
     Ok(())
 }
 
 /// The line of the first place.
-fn first_line(alloc: Global, game: &PlayedGame, place: &Place) -> Result<Vec<u8>, Memory>
-    requires { IsPlaceOf game.now place.now }
-    ensures { IfOk result (λ line. line.items ≡ line_of (whole_text place.now)) }
+fn first_line(alloc: Global, here: &GamePlace<'_>) -> Result<Vec<u8>, Memory>
+    ensures { IfOk result (λ line. line.items ≡ line_of (whole_text here.now.place)) }
 {
-    let values = values_at(alloc, game.as_game(), place)?;
+    let values = here.values(alloc)?;
     let mut line = Vec::new(alloc);
-    put_whole(place, &values, &mut line)?;
+    put_whole(here.place(), &values, &mut line)?;
     line.push(b'\n')?;
     Ok(line)
 }
@@ -159,13 +154,14 @@ pub(crate) fn follow_record(
     ensures refused { IfErr result (IsMisfit game.now bytes.now) }
 {
     let mut place = game.start()?;
-    let mut lines = first_line(alloc, game, &place)?;
+    let mut lines = first_line(alloc, &GamePlace::new(game, &place))?;
     let mut last = None;
     let mut reader = RecordReader::new(bytes);
     let mut reached = Reached::Version;
     while let Some(line) = reader.read(reached.next())? {
         reached = judge_line(game, &reached, &line)?;
-        put_line(game, line.text, &place, &reached, &mut lines)?;
+        let before = GamePlace::new(game, &place);
+        put_line(line.text, &before, &reached, &mut lines)?;
         place = reached.place_or(place)?;
         last = later_of(move_in(line), last);
     }

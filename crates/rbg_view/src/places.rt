@@ -1,33 +1,17 @@
 //! What is written of a place, and the calls that write it at the end of a list of bytes.
-ghost use Rattle.std.specs.Prelude.{◌≡◌, ◌++◌, IfOk, OnOk, length};
-ghost use Rattle.rbg_rules.specs.Meaning.{IsPlaceOf};
+ghost use Rattle.std.specs.Prelude.{◌≡◌, ◌++◌, OnOk, length};
 ghost use Rattle.std.specs.List.{flat_map};
 ghost use Rattle.rbg_view.specs.Places.{change_at, change_text, changes_text, piece_text, pieces_text, place_text, whole_text};
 
-use rbg_base::{Memory, Piece, Variable};
+use rbg_base::{Memory, Piece};
 use rbg_moves::Place;
-use rbg_rules::Game;
 use rbg_wire::write_number;
-use std::alloc::Global;
 
 /// The first letter.
 const FIRST_LETTER: u8 = b'a';
 
 /// How many numbers have a letter.
 const LETTERS: u32 = 26;
-
-/// What the variables hold at a place.
-#[tactic(auto, using(crate::proofs::Taking::take_one))]
-pub(crate) fn values_at(alloc: Global, game: &Game, place: &Place) -> Result<Vec<u32>, Memory>
-    requires { IsPlaceOf game.now place.now }
-    ensures { IfOk result (λ values. values.items ≡ place.now.state.values) }
-{
-    let mut values = Vec::new(alloc);
-    for index in 0..game.variables() {
-        values.push(place.state.value(index as Variable))?;
-    }
-    Ok(values)
-}
 
 /// Appends the pieces and the values of a place, at which the variables hold these values.
 #[tactic(auto, unfolding(crate::specs::Places::whole_text))]

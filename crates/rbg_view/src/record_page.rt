@@ -7,14 +7,13 @@ ghost use Rattle.rbg_view.specs.Pages.{IsPage, lines_part, names_part, page_text
 use crate::drawing::put_drawing;
 use crate::followed_record::{FollowedRecord, follow_record};
 use crate::head::HEAD;
-use crate::places::values_at;
 use crate::script::BOARD_SCRIPT;
 use crate::style::BOARD_STYLE;
 use crate::tail::{END, SCRIPTS, STYLES};
 use crate::texts::{put_escaped, put_pieces, put_players, put_values, put_variables};
 use rbg_base::{Memory, Pair};
 use rbg_game::Layout;
-use rbg_moves::{Place, PlayedGame};
+use rbg_moves::{GamePlace, Place, PlayedGame};
 use rbg_record::Misfit;
 use rbg_rules::Game;
 use std::alloc::Global;
@@ -37,12 +36,12 @@ pub fn page(
 {
     let followed = follow_record(alloc, game, bytes)?;
     let mut out = Vec::new(alloc);
-    put_page(game.as_game(), layout, described, &followed, &mut out)?;
+    put_page(game, layout, described, &followed, &mut out)?;
     Ok(out)
 }
 
 fn put_page(
-    game: &Game,
+    game: &PlayedGame,
     layout: &Layout,
     described: &[u8],
     followed: &FollowedRecord,
@@ -52,9 +51,10 @@ fn put_page(
     ensures { OnOk result (out.new.items ≡ out.old.items
         ++ page_text game.now layout.now described.now followed.now) }
 {
+    let last = GamePlace::new(game, followed.last_place());
     out.extend_from_slice(HEAD)?;
-    put_place_part(game, layout, followed.marked(), followed.last_place(), out)?;
-    put_names_part(game, out)?;
+    put_place_part(layout, followed.marked(), &last, out)?;
+    put_names_part(game.as_game(), out)?;
     put_lines_part(described, followed.as_lines(), out)?;
     put_tail(out)?;
     Ok(())
@@ -63,21 +63,18 @@ fn put_page(
 /// Appends the board at a place, and what the variables hold there.
 #[tactic(auto, using(crate::proofs::Standing::pieces_within))]
 fn put_place_part(
-    game: &Game,
     layout: &Layout,
     marked: &[Pair],
-    place: &Place,
+    last: &GamePlace<'_>,
     out: &mut Vec<u8>,
 ) -> Result<(), Memory>
-    requires { IsPlaceOf game.now place.now }
     ensures { OnOk result (out.new.items ≡ out.old.items
-        ++ place_part game.now layout.now marked.now place.now) }
+        ++ place_part last.now.game layout.now marked.now last.now.place) }
 {
-    let standing = place.state.pieces();
-    let values = values_at(*out.allocator(), game, place)?;
-    put_drawing(game, layout, marked, standing, out)?;
+    let place = last.place();
+    put_drawing(last.game(), layout, marked, place.state.pieces(), out)?;
     out.extend_from_slice(b"</svg>\n")?;
-    put_values_part(game, place, values.as_slice(), out)?;
+    put_values_part(last, out)?;
     out.extend_from_slice(b"<div id='play'></div>\n")?;
     Ok(())
 }
@@ -107,20 +104,16 @@ fn put_tail(out: &mut Vec<u8>) -> Result<(), Memory>
     Ok(())
 }
 
-/// Appends what the variables hold at a place: these values.
-fn put_values_part(
-    game: &Game,
-    place: &Place,
-    values: &[u32],
-    out: &mut Vec<u8>,
-) -> Result<(), Memory>
-    requires { values.now ≡ place.now.state.values }
-    ensures { OnOk result (out.new.items ≡ out.old.items ++ values_part game.now place.now) }
+/// Appends what the variables hold at a place.
+fn put_values_part(last: &GamePlace<'_>, out: &mut Vec<u8>) -> Result<(), Memory>
+    ensures { OnOk result (out.new.items ≡ out.old.items
+        ++ values_part last.now.game last.now.place) }
 {
+    let values = last.values(*out.allocator())?;
     out.extend_from_slice(b"<ul id='variables'>")?;
-    put_variables(game, out)?;
+    put_variables(last.game(), out)?;
     out.extend_from_slice(b"</ul>\n<ul id='values'>")?;
-    put_values(values, out)?;
+    put_values(values.as_slice(), out)?;
     out.extend_from_slice(b"</ul>\n")?;
     Ok(())
 }

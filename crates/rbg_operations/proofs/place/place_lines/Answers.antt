@@ -7,4 +7,4 @@ pub returns : goal.returns
 returns c =
     let text = c.in_ok-write_place.ensures in
     let same : c.write_place.new.out.items ≡ text.0 = search rules in
-    subst (GoesOnAt c.args.game.now c.args.place.now) (sym same) text.1
+    subst (GoesOnAt c.args.here.now.game c.args.here.now.place) (sym same) text.1

@@ -8,8 +8,8 @@ use Rattle.rbg_operations.proofs.place.write_found.Goals as goal
 
 pub returns-then-is_empty : goal.returns-then-is_empty
 returns-then-is_empty c =
-    let game = c.args.game.now in
-    let place = c.args.place.now in
+    let game = c.args.here.now.game in
+    let place = c.args.here.now.place in
     let moves = c.args.listed.now.moves.items in
     let cut = c.args.listed.now.cut in
     let is = c.is_empty.ensures ∙ ap (λ count. count == 0) c.args.listed.now.moves.ok.0 in
@@ -26,6 +26,6 @@ returns-else-is_empty c =
     (λ is_text. λ has. (
       _,
       listed moves cut (something_left moves c.is_empty.result is c.if-is_empty.false) has,
-      subst (λ player. c.write_listed.new.out.items ≡ c.args.out.now.items ++ (flat_map (move_line player) moves ++ cut_text cut)) c.mover.ensures is_text,
+      subst (λ player. c.write_listed.new.out.items ≡ c.args.out.now.items ++ (flat_map (move_line player) moves ++ cut_text cut)) c.player.ensures is_text,
     ))
     c.write_listed.ensures

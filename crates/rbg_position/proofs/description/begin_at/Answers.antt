@@ -12,4 +12,4 @@ returns-in_err-other-clause-refused c =
 pub returns-in_err-begin-clause-refused : goal.returns-in_err-begin-clause-refused
 returns-in_err-begin-clause-refused c =
     passed_on c.from_residual-in_err-begin.result c.in_err-begin.field-0.0 _ c.from_residual-in_err-begin.ensures.1
-    (otherwise (subst (λ g. BeginsOtherwise g c.args.game.now c.args.place.now c.in_err-begin.field-0.0) c.in_ok-other.ensures.is c.in_err-begin.ensures.otherwise))
+    (otherwise (subst (λ g. BeginsOtherwise g c.args.here.now.game c.args.here.now.place c.in_err-begin.field-0.0) c.in_ok-other.ensures.is c.in_err-begin.ensures.otherwise))

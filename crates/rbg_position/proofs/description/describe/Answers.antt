@@ -61,23 +61,23 @@ returns-in_err-new-clause-refused c =
 
 pub returns-in-None-clause-refused : goal.returns-in-None-clause-refused
 returns-in-None-clause-refused c =
-    absurd (no_board_missing c.args.text.now c.args.game.now c.requires.loads (missing _ _ c.in-None.is c.in_ok-new.ensures.none))
+    absurd (no_board_missing c.args.text.now c.args.here.now.game c.requires.loads (missing _ _ c.in-None.is c.in_ok-new.ensures.none))
 
-pub begin_at-requires-clause-narrow : goal.begin_at-requires-clause-narrow
-begin_at-requires-clause-narrow c = narrow c.args.text.now c.args.game.now c.requires.loads
+pub begin_at-requires : goal.begin_at-requires
+begin_at-requires c = narrow c.args.text.now c.args.here.now.game c.requires.loads
 
 pub returns-in_err-begin_at-clause-refused : goal.returns-in_err-begin_at-clause-refused
 returns-in_err-begin_at-clause-refused c =
     passed_on c.from_residual-in_err-begin_at.result c.in_err-begin_at.field-0.0 _ c.from_residual-in_err-begin_at.ensures.1
-    (undescribed c.args.text.now _ c.deref-2.result.now c.args.game.now c.args.place.now c.in_err-begin_at.field-0.0
-    (text_at c.args.text.now c.args.tokens.now c.args.game.now c.as_game.result.now c.args.place.now c.pieces_of.result.now _ c.deref.result.now _ c.requires.tokens c.requires.loads c.as_game.ensures.game c.pieces_of.ensures c.deref.ensures.value c.in_ok-section.ensures
+    (undescribed c.args.text.now _ c.deref-2.result.now c.args.here.now.game c.args.here.now.place c.in_err-begin_at.field-0.0
+    (text_at c.args.text.now c.args.tokens.now c.args.here.now.game c.game.result.now c.args.here.now.place c.pieces.result.now _ c.deref.result.now _ c.requires.tokens c.requires.loads c.game.ensures.game c.pieces.ensures c.deref.ensures.value c.in_ok-section.ensures
     (found _ c.in-Some.new _ c.in-Some.is c.in_ok-new.ensures.found)) c.deref-2.ensures.value c.in_err-begin_at.ensures.refused)
 
 pub returns-clause-described : goal.returns-clause-described
 returns-clause-described c = record {
   is_text =
-      text_at c.args.text.now c.args.tokens.now c.args.game.now c.as_game.result.now c.args.place.now c.pieces_of.result.now _ c.deref.result.now _ c.requires.tokens c.requires.loads c.as_game.ensures.game c.pieces_of.ensures c.deref.ensures.value c.in_ok-section.ensures
+      text_at c.args.text.now c.args.tokens.now c.args.here.now.game c.game.result.now c.args.here.now.place c.pieces.result.now _ c.deref.result.now _ c.requires.tokens c.requires.loads c.game.ensures.game c.pieces.ensures c.deref.ensures.value c.in_ok-section.ensures
       (found _ c.in-Some.new _ c.in-Some.is c.in_ok-new.ensures.found);
-  loads = subst (λ n. Loads n (game_at c.args.game.now c.args.place.now)) c.deref-2.ensures.value c.in_ok-begin_at.ensures.loads;
+  loads = subst (λ n. Loads n (game_at c.args.here.now.game c.args.here.now.place)) c.deref-2.ensures.value c.in_ok-begin_at.ensures.loads;
   settles = c.in_ok-begin_at.ensures.begins;
 }

@@ -15,7 +15,7 @@ found o new P some = subst (λ x. IfSome x P) some
 
 pub returns-in-Ok-clause-described : goal.returns-in-Ok-clause-described
 returns-in-Ok-clause-described c =
-    subst (λ numbers. Describes c.args.text.now c.args.game.now c.args.place.now c.in-Ok.text.items numbers) (sym c.new.ensures.items) (by_board c.in-Ok.ensures.described)
+    subst (λ numbers. Describes c.args.text.now c.args.here.now.game c.args.here.now.place c.in-Ok.text.items numbers) (sym c.new.ensures.items) (by_board c.in-Ok.ensures.described)
 
 pub returns-in_err-new-in-Err-clause-refused : goal.returns-in_err-new-in-Err-clause-refused
 returns-in_err-new-in-Err-clause-refused c =

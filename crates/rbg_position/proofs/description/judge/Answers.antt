@@ -18,4 +18,4 @@ returns-in_err-is_game_with-clause-apart c = λ new loads. passed_on c.from_resi
 
 pub returns-else-branch-clause-apart : goal.returns-else-branch-clause-apart
 returns-else-branch-clause-apart c = λ new loads.
-    other_game loads (differs c.args.other.now c.args.game.now c.as_game.result.now c.pieces_of.result.now c.args.place.now.state.pieces _ c.as_game.ensures.game c.pieces_of.ensures c.requires.narrow c.if-branch.false c.in_ok-is_game_with.ensures.whole)
+    other_game loads (differs c.args.other.now c.args.here.now.game c.game.result.now c.pieces.result.now c.args.here.now.place.state.pieces _ c.game.ensures.game c.pieces.ensures c.requires.narrow c.if-branch.false c.in_ok-is_game_with.ensures.whole)

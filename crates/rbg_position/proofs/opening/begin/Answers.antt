@@ -13,5 +13,5 @@ returns-in_err-new-clause-otherwise c = passed_on c.from_residual.result Memory 
 
 pub returns-clause-begins : goal.returns-clause-begins
 returns-clause-begins c =
-    IfOk-weaker c.begin_played.result (λ _. SettlesAs c.in_ok-new.new c.args.old.now c.args.place.now (number_in [])) (λ _. SettlesAs c.args.new c.args.old.now c.args.place.now (number_in []))
-    (λ _ b. subst (λ g. SettlesAs g c.args.old.now c.args.place.now (number_in [])) c.in_ok-new.ensures b) c.begin_played.ensures.begins
+    IfOk-weaker c.begin_played.result (λ _. SettlesAs c.in_ok-new.new c.args.there.now.game c.args.there.now.place (number_in [])) (λ _. SettlesAs c.args.new c.args.there.now.game c.args.there.now.place (number_in []))
+    (λ _ b. subst (λ g. SettlesAs g c.args.there.now.game c.args.there.now.place (number_in [])) c.in_ok-new.ensures b) c.begin_played.ensures.begins

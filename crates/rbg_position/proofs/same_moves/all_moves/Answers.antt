@@ -10,4 +10,4 @@ held r x P is = subst (λ z. IfOk z P) is
 
 pub returns-then-listed-clause-none : goal.returns-then-listed-clause-none
 returns-then-listed-clause-none c =
-    many (subst (IsListed c.args.game.now c.args.place.now most_compared c.in-Ok.listed.moves.items) c.if-listed.true (held _ c.in-Ok.listed _ c.in-Ok.is c.list_moves.ensures.lists))
+    many (subst (IsListed c.args.here.now.game c.args.here.now.place most_compared c.in-Ok.listed.moves.items) c.if-listed.true (held _ c.in-Ok.listed _ c.in-Ok.is c.list_moves.ensures.lists))

@@ -9,8 +9,8 @@ returns-then-is_heavy-clause-leads c =
 
 pub returns-then-ends_so-clause-leads : goal.returns-then-ends_so-clause-leads
 returns-then-ends_so-clause-leads c =
-    right_end c.args.game.now c.args.match_so_far.now c.args.at c.in_ok-finished.finished c.args.outcome c.in_ok-finished.ensures.finished c.in_ok-finished.ensures.going c.requires.fits c.requires.counted (c.ends_so.ensures.0 c.if-ends_so.true)
+    right_end c.args.game.now c.args.match_so_far.now c.args.at c.in_ok-finished.finished c.args.outcome (rw c.new.ensures at c.in_ok-finished.ensures.finished) (rw c.new.ensures at c.in_ok-finished.ensures.going) c.requires.fits c.requires.counted (rw c.new.ensures at c.ends_so.ensures.0 c.if-ends_so.true)
 
 pub returns-else-ends_so-clause-refused : goal.returns-else-ends_so-clause-refused
 returns-else-ends_so-clause-refused c =
-    wrong_end c.args.game.now c.args.match_so_far.now c.args.at c.in_ok-finished.finished c.args.outcome c.in_ok-finished.ensures.finished c.in_ok-finished.ensures.going (λ ends. true≢false (sym (c.ends_so.ensures.1 ends) ∙ c.if-ends_so.false))
+    wrong_end c.args.game.now c.args.match_so_far.now c.args.at c.in_ok-finished.finished c.args.outcome (rw c.new.ensures at c.in_ok-finished.ensures.finished) (rw c.new.ensures at c.in_ok-finished.ensures.going) (λ ends. true≢false (sym ((rw c.new.ensures at c.ends_so.ensures).1 ends) ∙ c.if-ends_so.false))

@@ -1,7 +1,0 @@
--- The keeper's moves lead to no place.
-use Rattle.rbg_position.proofs.Faults.{unsettled_as}
-use Rattle.rbg_position.proofs.opening.settle.Goals as goal
-
-pub returns-in-Err-clause-unsettled : goal.returns-in-Err-clause-unsettled
-returns-in-Err-clause-unsettled c =
-    unsettled_as _ _ c.settle.result c.in-Err.unsettled _ c.in-Err.is c.refusal_of.ensures c.settle.ensures.heavy c.settle.ensures.endless
