@@ -7,28 +7,28 @@ use rbg_player::Chooser;
 
 /// How a player of this process chooses its moves.
 #[derive(Drop)]
-pub enum Choice {
+pub enum SeatChooser {
     /// The first of them.
     First,
     /// By chance.
     Random(Pcg32),
 }
 
-impl Choice {
+impl SeatChooser {
     /// How the player of a seat chooses: by chance, if there is a seed for it. A seed gives each seat other numbers.
-    pub fn of_seat(seed: Option<u64>, seat: u64) -> Choice {
+    pub fn of_seat(seed: Option<u64>, seat: u64) -> SeatChooser {
         match seed {
-            Some(seed) => Choice::Random(Pcg32::new(seed, seat)),
-            None => Choice::First,
+            Some(seed) => SeatChooser::Random(Pcg32::new(seed, seat)),
+            None => SeatChooser::First,
         }
     }
 }
 
-impl Chooser for Choice {
+impl Chooser for SeatChooser {
     fn choose(&mut self, n: usize) -> usize {
         match self {
-            Choice::First => 0,
-            Choice::Random(chance) => below(n, chance),
+            SeatChooser::First => 0,
+            SeatChooser::Random(chance) => below(n, chance),
         }
     }
 }

@@ -1,6 +1,6 @@
 //! A player of this process, at its end of a stream.
 
-use crate::choice::Choice;
+use crate::choice::SeatChooser;
 use rbg_network::{ClientError, News, is_nothing_yet};
 use rbg_player::{Heard, Player};
 use rbg_wire::{Message, cut_at, read_message};
@@ -16,7 +16,7 @@ const PIECE: usize = 4_096;
 pub struct Client<S: Read + Write + Drop> {
     stream: S,
     player: Player,
-    choice: Choice,
+    choice: SeatChooser,
     /// What has come up to the end of the piece that ended the first message, which names the player.
     first: Vec<u8>,
     /// What the player has said and the stream has not taken yet.
@@ -25,7 +25,7 @@ pub struct Client<S: Read + Write + Drop> {
 
 impl<S: Read + Write + Drop> Client<S> {
     /// A player that has heard nothing yet.
-    pub fn new(alloc: Global, stream: S, choice: Choice) -> Client<S> {
+    pub fn new(alloc: Global, stream: S, choice: SeatChooser) -> Client<S> {
         Client {
             stream,
             player: Player::new(alloc),
@@ -42,7 +42,7 @@ impl<S: Read + Write + Drop> Client<S> {
         Ok(Client {
             stream,
             player,
-            choice: Choice::First,
+            choice: SeatChooser::First,
             first: Vec::new(alloc),
             unsent,
         })

@@ -1,7 +1,7 @@
 //! Connections to players of this process.
 ghost use Rattle.std.specs.Prelude.{◌≡◌, length, IfOk};
 
-use crate::choice::Choice;
+use crate::choice::SeatChooser;
 use crate::client::Client;
 use crate::played_line::PlayedLine;
 use rbg_network::{GatherError, Network, News, StreamLine, is_nothing_yet};
@@ -35,7 +35,7 @@ fn connect_lines<N: Network>(
     let port = network.port_of(listener)?;
     let mut lines = Vec::with_capacity(alloc, players)?;
     for index in 0..players {
-        let choice = Choice::of_seat(seed, index as u64 + 1);
+        let choice = SeatChooser::of_seat(seed, index as u64 + 1);
         lines.push(connect_line(alloc, network, port, listener, choice)?)?;
     }
     Ok(lines)
@@ -47,7 +47,7 @@ fn connect_line<N: Network>(
     network: &mut N,
     port: u16,
     listener: &mut N::Listener,
-    choice: Choice,
+    choice: SeatChooser,
 ) -> io::Result<PlayedLine<N::Stream>> {
     let client = Client::new(alloc, network.connect(port)?, choice);
     let line = StreamLine::new(accept_made(network, listener)?);

@@ -1,6 +1,6 @@
 //! The command `play`: a seat of a match over a connection.
 
-use crate::choice::Choice;
+use crate::choice::SeatChooser;
 use crate::client::Client;
 use crate::command::{Bound, Seat};
 use crate::devices::Devices;
@@ -30,7 +30,7 @@ fn play<N: Network>(alloc: Global, seat: Seat, network: &mut N) -> Result<Vec<u8
     let stream = network.connect(seat.port)?;
     let mut client = match seat.table {
         Some(table) => Client::join(alloc, stream, table)?,
-        None => Client::new(alloc, stream, Choice::First),
+        None => Client::new(alloc, stream, SeatChooser::First),
     };
     play_on(alloc, seat, network, &mut client)
 }
