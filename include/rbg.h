@@ -194,7 +194,7 @@ rbg_result rbg_play_on(rbg_state *from, rbg_state *to, uint64_t seed, uint64_t m
 
 /* As rbg_play_on, but it stores the moves that were made, as numbers in the form of rbg_moves, and how many numbers these are.
    RBG_SMALL if they are more than the room: both handles are as before then. A seed gives the same moves to both calls, those
-   of `sample` of `rbg ask`: that is tried (clients/c/trial.c), and not proved. */
+   of `sample` of `rbg ask`: that is tried (clients/c/trial.c, clients/package_trial.py), and not proved. */
 rbg_result rbg_sample(rbg_state *from, rbg_state *to, uint64_t seed, uint64_t most, uint32_t *numbers, size_t room, uint64_t *needed);
 
 #ifdef __cplusplus
