@@ -46,12 +46,16 @@ fn serve_file<F: Files, N: Network, R, W>(
         &served.serving,
     )?;
     let told = record_match(alloc, &played)?;
-    let keeping = &served.serving.keeping;
-    let status = match keep_record(&mut devices.network, keeping, told.as_slice()) {
+    let status = kept_status(&mut devices.network, served, told.as_slice());
+    Ok(Answer { text: told, status })
+}
+
+/// Keeps a record in a file too, where that is wanted. The status says whether it could be.
+fn kept_status<N: Network>(network: &mut N, served: &ServedMatch<'_>, told: &[u8]) -> Status {
+    match keep_record(network, &served.serving.keeping, told) {
         Ok(()) => Status::Success,
         Err(_) => Status::Device,
-    };
-    Ok(Answer { text: told, status })
+    }
 }
 
 /// The record of a match, in version 2.
